@@ -1,0 +1,4 @@
+pub mod Interpolation
+pub mod Sine
+pub mod Arctangent
+pub mod Accuracy

@@ -1,0 +1,230 @@
+// Sine, cosine, arctangent and arc sine of an f32, by two tables of 1,025 whole numbers.
+ghost use mathlib.Core.Path.{_≡_};
+ghost use Prim.Native.Nat.{_+_, _≤_, _<_};
+ghost use lib.Dec.{T};
+ghost use lib.IntN.{pos};
+ghost use lib.Ieee.{le};
+ghost use Rattle.scalar.specs.Arith.{f1};
+ghost use Rattle.scalar.specs.Scalar.{absOf};
+ghost use Rattle.trig.specs.Interpolation.{interpolated, signed, overUnit};
+ghost use Rattle.trig.specs.Sine.{sixteen, scaledOf, stepOf, fractionOf, tableSine, sinOf, cosOf, QuarterAt};
+ghost use Rattle.trig.specs.Arctangent.{atanAt, atanOf, Point, quadrantAngle, halfPlaneAngle, angleOf, atan2Of, asinOf};
+
+mod tables;
+
+use scalar::PI;
+use scalar::abs;
+use scalar::is_finite;
+use tables::ARCTANGENT;
+use tables::SINE;
+
+const FRAC_PI_2: f32 = 1.5707964;
+
+// 2^-6: from here on the tables are used.
+const SIXTY_FOURTH: f32 = 0.015625;
+
+// Between two entries at the fraction f / 65536, and then / 64.
+fn interpolate(t: u32, u: u32, f: u64) -> u32
+    requires { ⌜ (t ≤ 1073741824) × (u ≤ 1073741824) × (f < 65536) ⌝ }
+    ensures { λ r. ⌜ (pos r ≡ interpolated 65536 (pos t) (pos u) f) × (r ≤ 16777216) ⌝ }
+{
+    let a = t as u64;
+    let b = u as u64;
+    if a <= b {
+        ((a + (b - a) * f / 65536) / 64) as u32
+    } else {
+        ((a - (a - b) * f / 65536) / 64) as u32
+    }
+}
+
+// A whole number of either sign, over 2^24.
+fn over_unit(negative: bool, m: u32) -> f32
+    requires { ⌜ m ≤ 16777216 ⌝ }
+    ensures { λ r. ⌜ r ≡ overUnit (signed negative m) ⌝ }
+{
+    let v = m as f32 / 16777216.0;
+    if negative {
+        if m == 0 { v } else { -v }
+    } else {
+        v
+    }
+}
+
+// floor(x·2^24) of a size.
+fn scaled(x: f32) -> u64
+    requires { ⌜ (T (le x sixteen)) × (x ≡ absOf x) ⌝ }
+    ensures { λ r. ⌜ (r ≡ scaledOf x) × (r ≤ 268435456) ⌝ }
+{
+    std::num::truncating_f32_to_u64(x * 16777216.0)
+}
+
+// A quarter of the wave at one fraction: sizes on the way up and on the way down.
+struct Sizes {
+    rising: u32,
+    falling: u32,
+}
+
+// All four entries in one call: the table is copied by each call that indexes it.
+fn quarter(i: usize, f: u64) -> Sizes
+    requires { ⌜ (i < 1024) × (f < 65536) ⌝ }
+    ensures { λ r. ⌜ QuarterAt i f (r .rising) (r .falling) ⌝ }
+{
+    let t = SINE;
+    Sizes {
+        rising: interpolate(t[i], t[i + 1], f),
+        falling: interpolate(t[1024 - i], t[1023 - i], f),
+    }
+}
+
+pub struct SinCos {
+    pub sin: f32,
+    pub cos: f32,
+}
+
+// By the table, at a turn of q / 65536 steps.
+fn table_sin_cos(q: u64) -> SinCos
+    ensures { λ r. ⌜ (r .sin ≡ tableSine (stepOf q) (fractionOf q)) × (r .cos ≡ tableSine (stepOf q + 1024) (fractionOf q)) ⌝ }
+{
+    let s = q / 65536 % 4096;
+    let w = quarter((s % 1024) as usize, q % 65536);
+    let quadrant = s / 1024;
+    if quadrant == 0 {
+        return SinCos {
+            sin: over_unit(false, w.rising),
+            cos: over_unit(false, w.falling),
+        };
+    }
+    if quadrant == 1 {
+        return SinCos {
+            sin: over_unit(false, w.falling),
+            cos: over_unit(true, w.rising),
+        };
+    }
+    if quadrant == 2 {
+        return SinCos {
+            sin: over_unit(true, w.rising),
+            cos: over_unit(true, w.falling),
+        };
+    }
+    SinCos {
+        sin: over_unit(true, w.falling),
+        cos: over_unit(false, w.rising),
+    }
+}
+
+pub fn sin_cos(a: f32) -> SinCos
+    ensures { λ r. ⌜ (r .sin ≡ sinOf a) × (r .cos ≡ cosOf a) ⌝ }
+{
+    let x = abs(a);
+    if x <= 16.0 {
+        if x < SIXTY_FOURTH {
+            return SinCos {
+                sin: a - a * a * a / 6.0,
+                cos: 1.0 - a * a / 2.0,
+            };
+        }
+        let w = table_sin_cos(scaled(x) * 8589934592 / 3373259426);
+        if a < 0.0 {
+            return SinCos {
+                sin: -w.sin,
+                cos: w.cos,
+            };
+        }
+        return w;
+    }
+    SinCos {
+        sin: 0.0 / 0.0,
+        cos: 0.0 / 0.0,
+    }
+}
+
+pub fn sin(a: f32) -> f32
+    ensures { λ r. ⌜ r ≡ sinOf a ⌝ }
+{
+    sin_cos(a).sin
+}
+
+pub fn cos(a: f32) -> f32
+    ensures { λ r. ⌜ r ≡ cosOf a ⌝ }
+{
+    sin_cos(a).cos
+}
+
+// The arctangent's table at k / 2^24.
+fn atan_at(k: u64) -> u32
+    ensures { λ r. ⌜ (pos r ≡ atanAt k) × (r ≤ 16777216) ⌝ }
+{
+    if k < 16777216 {
+        let i = (k / 16384) as usize;
+        let t = ARCTANGENT;
+        interpolate(t[i], t[i + 1], k % 16384 * 4)
+    } else {
+        ARCTANGENT[1024] / 64
+    }
+}
+
+// The arctangent of a number from 0 to 1.
+fn atan(t: f32) -> f32
+    requires { ⌜ (T (le t f1)) × (t ≡ absOf t) ⌝ }
+    ensures { λ r. ⌜ r ≡ atanOf t ⌝ }
+{
+    if t < SIXTY_FOURTH {
+        t - t * t * t / 3.0
+    } else {
+        over_unit(false, atan_at(scaled(t)))
+    }
+}
+
+// The angle of the point (w, h), both sizes.
+fn quadrant_angle(h: f32, w: f32) -> f32
+    requires { ⌜ Point h w ⌝ }
+    ensures { λ r. ⌜ r ≡ quadrantAngle h w ⌝ }
+{
+    if w < h {
+        FRAC_PI_2 - atan(w / h)
+    } else {
+        atan(h / w)
+    }
+}
+
+// The angle of the point (x, h), h a size.
+fn half_plane_angle(h: f32, x: f32) -> f32
+    requires { ⌜ Point h (absOf x) ⌝ }
+    ensures { λ r. ⌜ r ≡ halfPlaneAngle h x ⌝ }
+{
+    let r = quadrant_angle(h, abs(x));
+    if x < 0.0 { PI - r } else { r }
+}
+
+// The angle of the point (x, y), finite and not the origin.
+fn angle(y: f32, x: f32) -> f32
+    requires { ⌜ Point (absOf y) (absOf x) ⌝ }
+    ensures { λ r. ⌜ r ≡ angleOf y x ⌝ }
+{
+    let r = half_plane_angle(abs(y), x);
+    if scalar::is_sign_negative(y) { -r } else { r }
+}
+
+pub fn atan2(y: f32, x: f32) -> f32
+    ensures { λ r. ⌜ r ≡ atan2Of y x ⌝ }
+{
+    if !is_finite(y) {
+        return 0.0 / 0.0;
+    }
+    if !is_finite(x) {
+        return 0.0 / 0.0;
+    }
+    if y != 0.0 {
+        return angle(y, x);
+    }
+    if x != 0.0 {
+        return angle(y, x);
+    }
+    0.0
+}
+
+pub fn asin(v: f32) -> f32
+    ensures { λ r. ⌜ r ≡ asinOf v ⌝ }
+{
+    atan2(v, root::sqrt((1.0 - v) * (1.0 + v)))
+}
