@@ -18,12 +18,12 @@ pub record Half (a b w : ℕ) : Type 0 where
   pub low : 2 * a ≤ 2 * (w * b) + b
 
 -- what `compare` says of twice the remainder
-abbrev Cmp : Ordering → ℕ → ℕ → Type 0
+abbrev pub Cmp : Ordering → ℕ → ℕ → Type 0
 Cmp Ordering·lt a b = a ≤ b
 Cmp Ordering·eq a b = a ≡ b
 Cmp Ordering·gt a b = b < a
 
-cmp : (a b : ℕ) → Cmp (compare a b) a b
+pub cmp : (a b : ℕ) → Cmp (compare a b) a b
 cmp a b = go (compare a b) (leb→le a b) (nleb→lt a b) (eqb→eq a b)
   where
     go : (o : Ordering) → (T (isLe o) → a ≤ b) → (T (not (isLe o)) → b < a) → (T (isEq o) → a ≡ b) → Cmp o a b

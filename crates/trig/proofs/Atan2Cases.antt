@@ -1,6 +1,6 @@
 -- The cases of `atan2`: a number that is not finite, both zero, and the rest.
-use mathlib.Core.Path.{_≡_, refl, ap, _∙_}
-use mathlib.Core.Bool.{Bool, true, false, _&&_}
+use mathlib.Core.Path.{_≡_, refl, sym, ap, _∙_}
+use mathlib.Core.Bool.{Bool, true, false, not, _&&_}
 use lib.Ieee.{Float, nan, binary32, div, eq, ofBits}
 use Rattle.scalar.specs.Arith.{f0}
 use Rattle.scalar.specs.Scalar.{absOf, isFinite}
@@ -13,30 +13,32 @@ unfolding div ofBits
 undefined = refl
 
 module _ (y x : Float) where
-  pub first-not-finite : isFinite y ≡ false → nan ≡ atan2Of y x
+  pub not-finite : not (isFinite y && isFinite x) ≡ true → div binary32 f0 f0 ≡ atan2Of y x
   unfolding atan2Of
-  first-not-finite h = rw h
+  not-finite h = rw (h, undefined)
 
-  module _ (h : isFinite y ≡ true) where
-    pub second-not-finite : isFinite x ≡ false → nan ≡ atan2Of y x
+  module _ (h : not (isFinite y && isFinite x) ≡ false) where
+    pub origin : (eq y f0 && eq x f0) ≡ true → f0 ≡ atan2Of y x
     unfolding atan2Of
-    second-not-finite k = rw (h, k)
+    origin p = rw (h, p)
 
-    module _ (k : isFinite x ≡ true) where
-      pub origin : eq y f0 ≡ true → eq x f0 ≡ true → f0 ≡ atan2Of y x
+    module _ (p : (eq y f0 && eq x f0) ≡ false) where
+      pub off-origin : angleOf y x ≡ atan2Of y x
       unfolding atan2Of
-      origin p q = rw (h, k, p, q)
+      off-origin = rw (h, p)
 
-      module _ (p : (eq y f0 && eq x f0) ≡ false) where
-        pub point : Point (absOf y) (absOf x)
-        point = record {
-          size-h = abs-abs y;
-          size-w = abs-abs x;
-          finite-h = abs-finite y ∙ h;
-          finite-w = abs-finite x ∙ k;
-          some = ap (λ (b : Bool). b && eq (absOf x) f0) (abs-is-zero y) ∙ ap (λ (b : Bool). eq y f0 && b) (abs-is-zero x) ∙ p;
-        }
-
-        pub off-origin : angleOf y x ≡ atan2Of y x
-        unfolding atan2Of
-        off-origin = rw (h, k, p)
+      pub point : Point (absOf y) (absOf x)
+      point =
+          let b = both (isFinite y) (isFinite x) h in
+          record {
+            size-h = abs-abs y;
+            size-w = abs-abs x;
+            finite-h = abs-finite y ∙ b .0;
+            finite-w = abs-finite x ∙ b .1;
+            some = ap (λ (b : Bool). b && eq (absOf x) f0) (abs-is-zero y) ∙ ap (λ (b : Bool). eq y f0 && b) (abs-is-zero x) ∙ p;
+          }
+        where
+          both : (a b : Bool) → not (a && b) ≡ false → (a ≡ true) × (b ≡ true)
+          both true true e = (refl, refl)
+          both true false e = (refl, sym e)
+          both false b e = (sym e, cc)

@@ -70,8 +70,8 @@ atan2-within (inf t) x h k s = absurd (subst T (sym h) tt)
 atan2-within (fin t m e) nan h k s = absurd (subst T (sym k) tt)
 atan2-within (fin t m e) (inf u) h k s = absurd (subst T (sym k) tt)
 atan2-within (fin t m e) (fin u n d) h k s =
-    subst (λ (r : Float). QuadrantWithin (lt (fin false n d) (fin false m e)) (lt (fin u n d) f0) (m * up e * down d) (n * up d * down e) (cond t (neg r) r)) (off-origin (fin t m e) (fin u n d) h k s)
-    (subst (λ (r : Float). QuadrantWithin (lt (fin false n d) (fin false m e)) (lt (fin u n d) f0) (m * up e * down d) (n * up d * down e) r) (turn t (halfPlaneAngle (fin false m e) (fin u n d))) (quadrant m e n d (point (fin t m e) (fin u n d) h k s .some) (lt (fin u n d) f0) (lt (fin false n d) (fin false m e)) refl))
+    subst (λ (r : Float). QuadrantWithin (lt (fin false n d) (fin false m e)) (lt (fin u n d) f0) (m * up e * down d) (n * up d * down e) (cond t (neg r) r)) (off-origin (fin t m e) (fin u n d) refl s)
+    (subst (λ (r : Float). QuadrantWithin (lt (fin false n d) (fin false m e)) (lt (fin u n d) f0) (m * up e * down d) (n * up d * down e) r) (turn t (halfPlaneAngle (fin false m e) (fin u n d))) (quadrant m e n d (point (fin t m e) (fin u n d) refl s .some) (lt (fin u n d) f0) (lt (fin false n d) (fin false m e)) refl))
   where
     turn : (t : Bool) (r : Float) → r ≡ cond t (neg (cond t (neg r) r)) (cond t (neg r) r)
     turn true r = sym (neg-neg r)

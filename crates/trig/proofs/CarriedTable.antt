@@ -3,8 +3,9 @@ use mathlib.Core.Path.{_≡_, refl, ap, _∙_}
 use mathlib.Core.Bool.{Bool, true, false}
 use mathlib.Core.Logic.{_⊎_, inl, inr}
 use Prim.Native.Nat.{ℕ, zero, suc, _+_, _-_, _%_, _≤_, _<_}
+use native.Mathlib.Nat.{mod-lt}
 use native.Mathlib.Omega.{arith}
-use lib.Dec.{leb, leb→le}
+use lib.Dec.{leb, leb→le, lit<}
 use lib.IntN.{pos, negℤ}
 use lib.ListN.{getD}
 use borrow.Author.Tests.{le-leb, lt-leb}
@@ -81,14 +82,31 @@ module _ (f i r g : ℕ) (l : i < 1024) (w : QuarterAt i f r g) where
   down : (b : Bool) (s : ℕ) → carried s ≡ signed b (at (1024 - i)) → carried (s + 1) ≡ signed b (at (1024 - (i + 1))) → tableSine s f ≡ overUnit (signed b g)
   down b s h k = wave-is b s f (at (1024 - i)) (at (1023 - i)) g h (k ∙ ap (λ (j : ℕ). signed b (at j)) (omega arith)) (w .falling)
 
-  pub in-0 : (s : ℕ) → s % 4096 ≡ i → tableSine s f ≡ overUnit (signed false r)
+  in-0 : (s : ℕ) → s % 4096 ≡ i → tableSine s f ≡ overUnit (signed false r)
   in-0 s e = up false s (first s i e (omega arith)) (first (s + 1) (i + 1) (omega arith) (omega arith))
 
-  pub in-1 : (s : ℕ) → s % 4096 ≡ 1024 + i → tableSine s f ≡ overUnit (signed false g)
+  in-1 : (s : ℕ) → s % 4096 ≡ 1024 + i → tableSine s f ≡ overUnit (signed false g)
   in-1 s e = down false s (second s i e (omega arith)) (second (s + 1) (i + 1) (omega arith) (omega arith))
 
-  pub in-2 : (s : ℕ) → s % 4096 ≡ 2048 + i → tableSine s f ≡ overUnit (signed true r)
+  in-2 : (s : ℕ) → s % 4096 ≡ 2048 + i → tableSine s f ≡ overUnit (signed true r)
   in-2 s e = up true s (third s i e (omega arith)) (third (s + 1) (i + 1) (omega arith) (omega arith))
 
-  pub in-3 : (s : ℕ) → s % 4096 ≡ 3072 + i → tableSine s f ≡ overUnit (signed true g)
+  in-3 : (s : ℕ) → s % 4096 ≡ 3072 + i → tableSine s f ≡ overUnit (signed true g)
   in-3 s e = down true s (fourth s i (omega arith) (omega arith)) (fourth (s + 1) (i + 1) (omega arith) (omega arith))
+
+-- sine and cosine, which is 1,024 steps on, from the step s of the whole turn
+module _ (f s r g : ℕ) (w : QuarterAt (s % 1024) f r g) where
+  inside : s % 1024 < 1024
+  inside = mod-lt s (lit< tt)
+
+  pub turn-0 : s % 4096 ≡ s % 1024 → (tableSine s f ≡ overUnit (signed false r)) × (tableSine (s + 1024) f ≡ overUnit (signed false g))
+  turn-0 e = (in-0 f (s % 1024) r g inside w s e, in-1 f (s % 1024) r g inside w (s + 1024) (omega arith))
+
+  pub turn-1 : s % 4096 ≡ 1024 + s % 1024 → (tableSine s f ≡ overUnit (signed false g)) × (tableSine (s + 1024) f ≡ overUnit (signed true r))
+  turn-1 e = (in-1 f (s % 1024) r g inside w s e, in-2 f (s % 1024) r g inside w (s + 1024) (omega arith))
+
+  pub turn-2 : s % 4096 ≡ 2048 + s % 1024 → (tableSine s f ≡ overUnit (signed true r)) × (tableSine (s + 1024) f ≡ overUnit (signed true g))
+  turn-2 e = (in-2 f (s % 1024) r g inside w s e, in-3 f (s % 1024) r g inside w (s + 1024) (omega arith))
+
+  pub turn-3 : s % 4096 ≡ 3072 + s % 1024 → (tableSine s f ≡ overUnit (signed true g)) × (tableSine (s + 1024) f ≡ overUnit (signed false r))
+  turn-3 e = (in-3 f (s % 1024) r g inside w s e, in-0 f (s % 1024) r g inside w (s + 1024) (omega arith))

@@ -67,23 +67,14 @@ pi-value : HasValue pi false (3373259520 * 2 ^ 119) (2 ^ 149)
 unfolding ofBits
 pi-value = (refl, refl)
 
-built-steep : (P M X Y E : ℕ) → Sub P M X Y (1686629760 * E) (64 * E) → Built 2 true X Y P M (64 * E) E
-built-steep P M X Y E s = record { high = high (s .high); low = low (s .low) }
+built-away : (c P M X Y f E : ℕ) → Sub P M X Y (c * (843314880 * E)) f → Built c true X Y P M f E
+built-away c P M X Y f E s = record { high = high (c * (843314880 * E)) (s .high); low = low (c * (843314880 * E)) (s .low) }
   where
-    high : P + X ≤ M + Y + 1686629760 * E + 64 * E → P + X ≤ M + 2 * (843314880 * E) + Y + 64 * E
-    high h = omega arith
+    high : (N : ℕ) → P + X ≤ M + Y + N + f → P + X ≤ M + N + Y + f
+    high N h = omega arith
 
-    low : M + Y + 1686629760 * E ≤ P + X + 64 * E → M + 2 * (843314880 * E) + Y ≤ P + X + 64 * E
-    low h = omega arith
-
-built-left : (P M X Y E : ℕ) → Sub P M X Y (3373259520 * E) (128 * E) → Built 4 true X Y P M (128 * E) E
-built-left P M X Y E s = record { high = high (s .high); low = low (s .low) }
-  where
-    high : P + X ≤ M + Y + 3373259520 * E + 128 * E → P + X ≤ M + 4 * (843314880 * E) + Y + 128 * E
-    high h = omega arith
-
-    low : M + Y + 3373259520 * E ≤ P + X + 128 * E → M + 4 * (843314880 * E) + Y ≤ P + X + 128 * E
-    low h = omega arith
+    low : (N : ℕ) → M + Y + N ≤ P + X + f → M + N + Y ≤ P + X + f
+    low N h = omega arith
 
 built-both : (P M R Q X Y E : ℕ) → Sub R Q X Y (1686629760 * E) (64 * E) → Sub P M R Q (3373259520 * E) (128 * E) → Built 2 false X Y P M (192 * E) E
 built-both P M R Q X Y E a b = record { high = high (a .low) (b .high); low = low (a .high) (b .low) }
@@ -133,12 +124,12 @@ module _ (p q : ℕ) (qp : 0 < q) (pq : p ≤ q) (a : Float) (A : Arctan a p q (
   half = let L = from-half in halve (cond (L .t) 0 (L .G)) (cond (L .t) (L .G) 0) X Y (1686629760 * 2 ^ 119) (2 ^ 126) (64 * 2 ^ 119) refl (L .high) (L .low)
 
   pub steep : AngleWithin 2 true p q (sub binary32 halfPi a)
-  steep = let L = from-half in finish 2 true (sub binary32 halfPi a) (L .t) (L .G) (64 * 2 ^ 119) (lit≤ tt) (lit≤ tt) (L .value) (built-steep (cond (L .t) 0 (L .G)) (cond (L .t) (L .G) 0) X Y (2 ^ 119) half)
+  steep = let L = from-half in finish 2 true (sub binary32 halfPi a) (L .t) (L .G) (64 * 2 ^ 119) (lit≤ tt) (lit≤ tt) (L .value) (built-away 2 (cond (L .t) 0 (L .G)) (cond (L .t) (L .G) 0) X Y (64 * 2 ^ 119) (2 ^ 119) half)
 
   pub left : AngleWithin 4 true p q (sub binary32 pi a)
   left =
       let L = less pi a (3373259520 * 2 ^ 119) (A .s) (A .G) 151 (2 ^ 151) refl pi-value (A .value) (lit≤ tt) (lit≤ tt) (lit< tt) (plus-fits X (2 ^ 149) (392 * 2 ^ 119) (2 ^ 119) (2 ^ 151) (lit< tt) refl refl (lit≤ tt) (size .plus)) (whole-fits Y (392 * 2 ^ 119) (2 ^ 119) (2 ^ 151) (lit< tt) refl refl (size .minus)) in
-      finish 4 true (sub binary32 pi a) (L .t) (L .G) (128 * 2 ^ 119) (lit≤ tt) (lit≤ tt) (L .value) (built-left (cond (L .t) 0 (L .G)) (cond (L .t) (L .G) 0) X Y (2 ^ 119) (halve (cond (L .t) 0 (L .G)) (cond (L .t) (L .G) 0) X Y (3373259520 * 2 ^ 119) (2 ^ 127) (128 * 2 ^ 119) refl (L .high) (L .low)))
+      finish 4 true (sub binary32 pi a) (L .t) (L .G) (128 * 2 ^ 119) (lit≤ tt) (lit≤ tt) (L .value) (built-away 4 (cond (L .t) 0 (L .G)) (cond (L .t) (L .G) 0) X Y (128 * 2 ^ 119) (2 ^ 119) (halve (cond (L .t) 0 (L .G)) (cond (L .t) (L .G) 0) X Y (3373259520 * 2 ^ 119) (2 ^ 127) (128 * 2 ^ 119) refl (L .high) (L .low)))
 
   pub both : AngleWithin 2 false p q (sub binary32 pi (sub binary32 halfPi a))
   both =

@@ -30,13 +30,13 @@ Within u v e (fin t n d) = Near (if t then 0 else n * up d) (if t then n * up d 
 abbrev pub SumsWithin : (ℕ → ℕ → ℕ → ℕ) → ℕ → ℕ → Float → Type 0
 SumsWithin term p q r = (i : ℕ) → Within (added term (33 + i) p q) (taken term (33 + i) p q) (denominator (33 + i) q) r
 
--- the sine of a is minus that of -a
+-- of the sine at the exact a; it is minus the sine of -a
 abbrev pub SinWithin : Float → Float → Type 0
 SinWithin nan r = ⊥
 SinWithin (inf s) r = ⊥
 SinWithin (fin s m e) r = SumsWithin sinTerm (m * up e) (down e) (if s then neg r else r)
 
--- and its cosine is that of -a
+-- of the cosine, which is that of -a
 abbrev pub CosWithin : Float → Float → Type 0
 CosWithin nan r = ⊥
 CosWithin (inf s) r = ⊥
@@ -64,15 +64,16 @@ abbrev pub quarterHigh : ℕ → ℕ
 quarterHigh j = eulerSum (60 + j) 1 1 + eulerTerm (59 + j) 1 1
 
 -- r is within 2^-20 of c X / B + Y / A, or where `away` of c X / B - Y / A
-abbrev pub SumWithin : ℕ → Bool → ℕ → ℕ → ℕ → ℕ → Float → Type 0
-SumWithin c away X B Y A r = Within (c * X * A + (if away then 0 else Y) * B) ((if away then Y else 0) * B) (A * B) r
+abbrev pub EndWithin : ℕ → Bool → ℕ → ℕ → ℕ → ℕ → Float → Type 0
+EndWithin c away X B Y A r = Within (c * X * A + (if away then 0 else Y) * B) ((if away then Y else 0) * B) (A * B) r
 
 -- both ends of c π/4 + atan (p / q), or where `away` of c π/4 - atan (p / q)
 pub record AngleWithin (c : ℕ) (away : Bool) (p q : ℕ) (r : Float) : Type 0 where
-  pub low : (i j : ℕ) → SumWithin c away (quarterLow j) (quarterDenominator j) (if away then atanHigh i p q else atanLow i p q) (atanDenominator i p q) r
-  pub high : (i j : ℕ) → SumWithin c away (quarterHigh j) (quarterDenominator j) (if away then atanLow i p q else atanHigh i p q) (atanDenominator i p q) r
+  pub low : (i j : ℕ) → EndWithin c away (quarterLow j) (quarterDenominator j) (if away then atanHigh i p q else atanLow i p q) (atanDenominator i p q) r
+  pub high : (i j : ℕ) → EndWithin c away (quarterHigh j) (quarterDenominator j) (if away then atanLow i p q else atanHigh i p q) (atanDenominator i p q) r
 
--- the angle of (x, y) for an x of size w and a y of size h, whole numbers of one unit: by whether h is above w, and whether x is below zero
+-- the angle of (x, y) for an x of size w and a y of size h, whole numbers of one unit, by whether h is above w and whether x is below zero:
+-- atan (h / w), π/2 - atan (w / h), π - atan (h / w), π/2 + atan (w / h)
 abbrev pub QuadrantWithin : Bool → Bool → ℕ → ℕ → Float → Type 0
 QuadrantWithin false false h w r = AngleWithin 0 false h w r
 QuadrantWithin true false h w r = AngleWithin 2 true w h r

@@ -1,11 +1,12 @@
 // Sine, cosine, arctangent and arc sine of an f32, by two tables of 1,025 whole numbers.
 ghost use mathlib.Core.Path.{_≡_};
+ghost use mathlib.Core.Bool.{_&&_};
 ghost use Prim.Native.Nat.{_+_, _≤_, _<_};
 ghost use lib.Dec.{T};
 ghost use lib.IntN.{pos};
-ghost use lib.Ieee.{le};
-ghost use Rattle.scalar.specs.Arith.{f1};
-ghost use Rattle.scalar.specs.Scalar.{absOf};
+ghost use lib.Ieee.{le, eq};
+ghost use Rattle.scalar.specs.Arith.{f0, f1};
+ghost use Rattle.scalar.specs.Scalar.{absOf, isFinite};
 ghost use Rattle.trig.specs.Interpolation.{interpolated, signed, overUnit};
 ghost use Rattle.trig.specs.Sine.{sixteen, scaledOf, stepOf, fractionOf, tableSine, sinOf, cosOf, QuarterAt};
 ghost use Rattle.trig.specs.Arctangent.{atanAt, atanOf, Point, quadrantAngle, halfPlaneAngle, angleOf, atan2Of, asinOf};
@@ -205,22 +206,34 @@ fn angle(y: f32, x: f32) -> f32
     if scalar::is_sign_negative(y) { -r } else { r }
 }
 
+fn both_finite(y: f32, x: f32) -> bool
+    ensures { λ r. ⌜ r ≡ (isFinite y && isFinite x) ⌝ }
+{
+    if is_finite(y) {
+        return is_finite(x);
+    }
+    false
+}
+
+fn both_zero(y: f32, x: f32) -> bool
+    ensures { λ r. ⌜ r ≡ (eq y f0 && eq x f0) ⌝ }
+{
+    if y == 0.0 {
+        return x == 0.0;
+    }
+    false
+}
+
 pub fn atan2(y: f32, x: f32) -> f32
     ensures { λ r. ⌜ r ≡ atan2Of y x ⌝ }
 {
-    if !is_finite(y) {
+    if !both_finite(y, x) {
         return 0.0 / 0.0;
     }
-    if !is_finite(x) {
-        return 0.0 / 0.0;
+    if both_zero(y, x) {
+        return 0.0;
     }
-    if y != 0.0 {
-        return angle(y, x);
-    }
-    if x != 0.0 {
-        return angle(y, x);
-    }
-    0.0
+    angle(y, x)
 }
 
 pub fn asin(v: f32) -> f32
