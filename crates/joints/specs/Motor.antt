@@ -1,0 +1,49 @@
+-- A motor's multiplier, by its model, which is the Rust's own, and a joint without a motor. Definitions only.
+use mathlib.Core.Bool.{false, _&&_}
+use lib.Ieee.{Float, neg, lt, le}
+use Rattle.scalar.specs.Arith.{if_then_else_, _⊕_, _⊗_, _⊘_, f32, f0, f1, f2, epsilon, largest, tau}
+use Rattle.scalar.specs.Scalar.{absOf, clampOf}
+use Rattle.joints.specs.declared.motor.MotorModel.{MotorModel}
+use Rattle.joints.specs.declared.motor.MotorModel.the-variants.{SpringDamper, AccelerationBased, ForceBased}
+use Rattle.joints.specs.declared.motor.AngularMotor.{AngularMotor}
+use Rattle.joints.specs.declared.motor.LinearMotor.{LinearMotor}
+use Rattle.joints.specs.declared.motor.MotorLagrange.{MotorLagrange}
+use Rattle.joints.specs.declared.motor.MotorLagrange.the-variants.{None, Some}
+
+-- implicit Euler, with ω = 2π f: (ω² x + 2ζω v) h / (1 + 2ζω h + ω² h²)
+unfoldable pub springDamperChange : Float → Float → Float → Float → Float → Float
+springDamperChange f ζ v x h =
+    let ω = tau ⊗ f in
+    let ω² = ω ⊗ ω in
+    let 2ζω = f2 ⊗ ζ ⊗ ω in
+    (ω² ⊗ x ⊕ 2ζω ⊗ v) ⊗ h ⊗ (f1 ⊘ (f1 ⊕ 2ζω ⊗ h ⊕ ω² ⊗ h ⊗ h))
+
+-- the change of velocity that a model asks for, by the errors v of velocity and x of position, at the weight w
+unfoldable pub velocityChange : MotorModel → Float → Float → Float → Float → Float
+velocityChange (SpringDamper f ζ) v x w h = springDamperChange f ζ v x h
+velocityChange (AccelerationBased k d) v x w h = d ⊗ v ⊕ k ⊗ x ⊗ h
+velocityChange (ForceBased k d) v x w h = (k ⊗ x ⊕ d ⊗ v) ⊗ w
+
+-- at most cap h² in size; a cap counts between 0 and the largest f32
+unfoldable pub capped : Float → Float → Float → Float
+capped Δλ cap h =
+    let most = cap ⊗ h ⊗ h in
+    if lt cap largest && lt f0 cap then clampOf Δλ (neg most) most else Δλ
+
+-- none where the correction is negligible
+unfoldable pub motorLagrange : MotorModel → Float → Float → Float → Float → Float → MotorLagrange
+motorLagrange model cap v x w h =
+    let correction = velocityChange model v x w h ⊗ h in
+    if le (absOf correction) epsilon then None else Some (capped (correction ⊘ w) cap h)
+
+-- a critically damped spring of 5 Hz
+abbrev pub defaultModel : MotorModel
+defaultModel = SpringDamper (f32 0x40a0_0000) f1
+
+abbrev pub disabledAngularMotor : AngularMotor
+disabledAngularMotor =
+    record { enabled = false; «target_velocity» = f0; «target_position» = f0; «max_torque» = largest; «motor_model» = defaultModel }
+
+abbrev pub disabledLinearMotor : LinearMotor
+disabledLinearMotor =
+    record { enabled = false; «target_velocity» = f0; «target_position» = f0; «max_force» = largest; «motor_model» = defaultModel }

@@ -1,0 +1,12 @@
+// A joint that keeps two points at a distance within limits.
+use crate::DistanceLimit;
+use vector::Vec3;
+
+pub struct DistanceJoint {
+    pub body1: usize,
+    pub body2: usize,
+    pub anchor1: Vec3,
+    pub anchor2: Vec3,
+    pub limits: DistanceLimit,
+    pub compliance: f32,
+}

@@ -1,0 +1,88 @@
+// Bodies as the solver sees them: masses, locks and the dummy (src/dynamics/solver/solver_body/mod.rs).
+use vector::Quat;
+use vector::SymmetricTensor;
+use vector::Vec3;
+ghost use mathlib.Core.Path.{_≡_};
+ghost use Rattle.solver_body.specs.Body.{unlocked, effectiveInvMass, isValid};
+
+// What a joint's `prepare` reads of a body.
+pub struct RigidBody {
+    pub position: Vec3,
+    pub rotation: Quat,
+    pub center_of_mass: Vec3,
+}
+
+// A body's velocities, and how far it was moved and turned since the step began.
+pub struct SolverBody {
+    pub linear_velocity: Vec3,
+    pub angular_velocity: Vec3,
+    pub delta_position: Vec3,
+    pub delta_rotation: Quat,
+}
+
+pub struct BodyPair {
+    pub body1: SolverBody,
+    pub body2: SolverBody,
+}
+
+impl SolverBody {
+    // An anchored body.
+    pub const DUMMY: SolverBody = SolverBody {
+        linear_velocity: Vec3::ZERO,
+        angular_velocity: Vec3::ZERO,
+        delta_position: Vec3::ZERO,
+        delta_rotation: Quat::IDENTITY,
+    };
+}
+
+pub struct SolverBodyInertia {
+    pub inv_mass: f32,
+    // In world axes.
+    pub inv_angular_inertia: SymmetricTensor,
+    pub dominance: i16,
+    pub translation_x_locked: bool,
+    pub translation_y_locked: bool,
+    pub translation_z_locked: bool,
+}
+
+fn unlocked(locked: bool, inv_mass: f32) -> f32
+    ensures { λ r. ⌜ r ≡ unlocked locked «inv_mass» ⌝ }
+{
+    if locked { 0.0 } else { inv_mass }
+}
+
+impl SolverBodyInertia {
+    // An anchored body: nothing moves it, and its dominance is above every i8.
+    pub const DUMMY: SolverBodyInertia = SolverBodyInertia {
+        inv_mass: 0.0,
+        inv_angular_inertia: SymmetricTensor::ZERO,
+        dominance: 128,
+        translation_x_locked: false,
+        translation_y_locked: false,
+        translation_z_locked: false,
+    };
+
+    pub fn effective_inv_mass(self) -> Vec3
+        ensures { λ r. ⌜ r ≡ effectiveInvMass self ⌝ }
+    {
+        Vec3 {
+            x: unlocked(self.translation_x_locked, self.inv_mass),
+            y: unlocked(self.translation_y_locked, self.inv_mass),
+            z: unlocked(self.translation_z_locked, self.inv_mass),
+        }
+    }
+}
+
+// Where a body stands among the solver's bodies.
+pub struct SolverBodyIndex(pub u32);
+
+impl SolverBodyIndex {
+    // An anchored body has no place there.
+    pub const INVALID: SolverBodyIndex = SolverBodyIndex(u32::MAX);
+
+    pub fn is_valid(self) -> bool
+        ensures { λ r. ⌜ r ≡ isValid self ⌝ }
+    {
+        self.0 != u32::MAX
+    }
+}
