@@ -1,0 +1,124 @@
+-- Finite at the end of a joint's solve: finite all the way. Totals and displacements change by sums only, and a stage that returns early changes neither (or adds zero to its total).
+use mathlib.Core.Path.{_≡_, refl}
+use mathlib.Core.Bool.{Bool, true, false}
+use mathlib.Core.List.{List, [], _∷_}
+use lib.Dec.{T}
+use lib.Ieee.{binary32, neg, ofBits}
+use Rattle.scalar.specs.Arith.{if_then_else_}
+use Rattle.vector.specs.Vector.{origin, negOf, scaleOf, timesOf}
+use Rattle.vector.specs.Rotation.{turnOf}
+use Rattle.vector.specs.declared.Vec3.{Vec3}
+use Rattle.vector.specs.declared.SymmetricTensor.{SymmetricTensor}
+use Rattle.joints.specs.declared.motor.MotorLagrange.{MotorLagrange}
+use Rattle.joints.specs.declared.motor.MotorLagrange.the-variants.{None, Some}
+use Rattle.solver_body.specs.Body.{effectiveInvMass}
+use Rattle.solver_body.specs.declared.SolverBodyInertia.{SolverBodyInertia}
+use Rattle.solver_body.specs.declared.BodyPair.{BodyPair}
+use Rattle.xpbd.specs.Positional.{pushed, pulled, impulseApplied}
+use Rattle.xpbd.specs.Angular.{turned, angularImpulseApplied}
+use Rattle.xpbd_joints.specs.Revolute.{drivenBy}
+use Rattle.xpbd_joints.specs.Prismatic.{drivenAlong}
+use Rattle.laws.proofs.Place.{real}
+use Rattle.laws.proofs.Between.{finite-add}
+use Rattle.stages.specs.Stage.{positional, Stage, correctionOf, impulseOf, multiplierOf, appliedTo, afterOf}
+use Rattle.stages.specs.Steps.{Totals, Slot, first, second, third, fourth, added, Step, compliant, hingeMotor, slideMotor, Setting, Run, stageAt, isCalled, uncalled, hingeGiven, slideGiven, hingeDriven, slideDriven, stepped, run, pushMultiplier}
+use Rattle.stages.proofs.Vec.{Finite3, add-back3, sub-back3, scale-back}
+
+-- both displacements
+pub record Still (b : BodyPair) : Type 0 where
+  pub d₁ : Finite3 (b .body1 .«delta_position»)
+  pub d₂ : Finite3 (b .body2 .«delta_position»)
+
+pub record AllTotals (t : Totals) : Type 0 where
+  pub f₁ : Finite3 (t .t₁)
+  pub f₂ : Finite3 (t .t₂)
+  pub f₃ : Finite3 (t .t₃)
+  pub f₄ : Finite3 (t .t₄)
+
+pub record Calm (r : Run) : Type 0 where
+  pub still : Still (r .bodies)
+  pub totals : AllTotals (r .totals)
+
+-- ---- totals
+added-back : (l : Slot) (p : Vec3) (t : Totals) → AllTotals (added l p t) → AllTotals t × Finite3 p
+added-back first p t h = let k = add-back3 (t .t₁) p (h .f₁) in (record { f₁ = k .0; f₂ = h .f₂; f₃ = h .f₃; f₄ = h .f₄ }, k .1)
+added-back second p t h = let k = add-back3 (t .t₂) p (h .f₂) in (record { f₁ = h .f₁; f₂ = k .0; f₃ = h .f₃; f₄ = h .f₄ }, k .1)
+added-back third p t h = let k = add-back3 (t .t₃) p (h .f₃) in (record { f₁ = h .f₁; f₂ = h .f₂; f₃ = k .0; f₄ = h .f₄ }, k .1)
+added-back fourth p t h = let k = add-back3 (t .t₄) p (h .f₄) in (record { f₁ = h .f₁; f₂ = h .f₂; f₃ = h .f₃; f₄ = k .0 }, k .1)
+
+-- ---- displacements
+impulse-back : (b : BodyPair) (i₁ i₂ : SolverBodyInertia) (p r₁ r₂ : Vec3) → Still (impulseApplied b i₁ i₂ p r₁ r₂) → Still b
+unfolding impulseApplied pushed pulled
+impulse-back b i₁ i₂ p r₁ r₂ h =
+    record {
+      d₁ = add-back3 (b .body1 .«delta_position») (timesOf p (effectiveInvMass i₁)) (h .d₁) .0;
+      d₂ = sub-back3 (b .body2 .«delta_position») (timesOf p (effectiveInvMass i₂)) (h .d₂) .0;
+    }
+
+angular-back : (b : BodyPair) (I₁ I₂ : SymmetricTensor) (p : Vec3) → Still (angularImpulseApplied b I₁ I₂ p) → Still b
+unfolding angularImpulseApplied turned
+angular-back b I₁ I₂ p h = record { d₁ = h .d₁; d₂ = h .d₂ }
+
+applied-back : (q : Bool) (s : Stage) → Still (appliedTo q s) → Still (s .entry .bodies)
+applied-back true s h =
+    impulse-back (s .entry .bodies) (s .entry .inertia1) (s .entry .inertia2) (impulseOf s) (correctionOf (s .entry) .r₁) (correctionOf (s .entry) .r₂) h
+applied-back false s h =
+    angular-back (s .entry .bodies) (s .entry .inertia1 .«inv_angular_inertia») (s .entry .inertia2 .«inv_angular_inertia») (scaleOf (correctionOf (s .entry) .n) (neg (multiplierOf s))) h
+
+after-back : (s : Stage) → Still (afterOf s) → Still (s .entry .bodies)
+unfolding afterOf
+after-back s h = applied-back (positional (s .entry .reads)) s h
+
+-- ---- one step
+uncalled-back : (q : Bool) (l : Slot) (r : Run) → Calm (uncalled q l r) → Calm r
+uncalled-back true l r h = h
+uncalled-back false l r h = record { still = h .still; totals = added-back l origin (r .totals) (h .totals) .0 }
+
+-- v says whether the stage was called
+pub done-back : (v : Bool) (l : Slot) (s : Stage) (r : Run) → s .entry .bodies ≡ r .bodies
+    → Calm (if v then record { bodies = afterOf s; totals = added l (impulseOf s) (r .totals) } else uncalled (correctionOf (s .entry) .still) l r)
+    → Calm r × (T v → Finite3 (impulseOf s))
+done-back true l s r e h =
+    let k = added-back l (impulseOf s) (r .totals) (h .totals) in
+    (record { still = rw e at (after-back s (h .still)); totals = k .0 }, λ _. k .1)
+done-back false l s r e h = (uncalled-back (correctionOf (s .entry) .still) l r h, λ x. absurd x)
+
+pub hinge-back : (S : Setting) (g : MotorLagrange) (a : Vec3) (r : Run) → Calm (hingeDriven S g a r) → Calm r × T (real (pushMultiplier g))
+unfolding ofBits drivenBy
+hinge-back S None a r h = (h, tt)
+hinge-back S (Some Δλ) a r h =
+    let k = added-back fourth (scaleOf a Δλ) (r .totals) (h .totals) in (
+      record {
+        still = angular-back (r .bodies) (S .inertia1 .«inv_angular_inertia») (S .inertia2 .«inv_angular_inertia») (scaleOf a (neg Δλ)) (h .still);
+        totals = k .0;
+      },
+      scale-back a Δλ (k .1),
+    )
+
+pub slide-back : (S : Setting) (g : MotorLagrange) (r₁ r₂ a : Vec3) (r : Run) → Calm (slideDriven S g r₁ r₂ a r) → Calm r × T (real (pushMultiplier g))
+unfolding ofBits drivenAlong
+slide-back S None r₁ r₂ a r h = (h, tt)
+slide-back S (Some Δλ) r₁ r₂ a r h =
+    let t = r .totals in
+    let f = h .totals in
+    let k = add-back3 (t .t₁) (scaleOf a Δλ) (f .f₁) in (
+      record {
+        still = impulse-back (r .bodies) (S .inertia1) (S .inertia2) (negOf (scaleOf a Δλ)) r₁ r₂ (h .still);
+        totals =
+            record { f₁ = k .0; f₂ = f .f₂; f₃ = (finite-add binary32 (t .t₃ .x) Δλ (f .f₃ .0) .0, f .f₃ .1, f .f₃ .2); f₄ = f .f₄ };
+      },
+      scale-back a Δλ (k .1),
+    )
+
+pub step-back : (S : Setting) (s : Step) (r : Run) → Calm (stepped S s r) → Calm r
+step-back S (compliant l k α) r h = done-back (isCalled (stageAt S k α (r .bodies))) l (stageAt S k α (r .bodies)) r refl h .0
+step-back S (hingeMotor m a₁ b₁ b₂) r h = hinge-back S (hingeGiven S m a₁ b₁ b₂ (r .bodies)) (turnOf (r .bodies .body1 .«delta_rotation») a₁) r h .0
+step-back S (slideMotor m arm₁ arm₂ d axis) r h =
+    let q₁ = r .bodies .body1 .«delta_rotation» in
+    slide-back S (slideGiven S m arm₁ arm₂ d axis (r .bodies)) (turnOf q₁ arm₁) (turnOf (r .bodies .body2 .«delta_rotation») arm₂) (turnOf q₁ axis) r h .0
+
+-- ---- a list of steps
+pub run-back : (S : Setting) (l : List Step) (r : Run) → Calm (run S l r) → Calm r
+unfolding run
+run-back S [] r h = h
+run-back S (s ∷ l) r h = step-back S s r (run-back S l (stepped S s r) h)

@@ -1,0 +1,258 @@
+-- What a joint's solve whose end is finite leaves of each stage and push: `SoundStage` and `SoundPush`, all that the laws of rounding ask for.
+use mathlib.Core.Path.{refl}
+use mathlib.Core.Bool.{Bool, true, false, not}
+use mathlib.Core.List.{List, [], _∷_, _++_, List·Memᴰ, List·Memᴰ·head, List·Memᴰ·tail}
+use lib.Dec.{T}
+use lib.Ieee.{Float, binary32, lt, le, fits}
+use lib.Ieee.Fits.{sub-fits, div-fits}
+use lib.Ieee.Bits.{ofBits-fits}
+use Rattle.scalar.specs.Arith.{if_then_else_, _⊖_, _⊗_, _⊘_, f0, epsilon, pi}
+use Rattle.scalar.specs.Scalar.{absOf}
+use Rattle.root.specs.Root.{rootOf}
+use Rattle.vector.specs.Vector.{negOf, divOf, crossOf, lengthOf, lengthSquaredOf}
+use Rattle.vector.specs.Rotation.{turnOf}
+use Rattle.vector.specs.declared.Vec3.{Vec3}
+use Rattle.vector.specs.declared.Quat.{Quat}
+use Rattle.joints.specs.Limit.{uncorrected, distanceCorrection, angleCorrection}
+use Rattle.joints.specs.Motor.{velocityChange, capped, motorLagrange}
+use Rattle.joints.specs.declared.DistanceLimit.{DistanceLimit}
+use Rattle.joints.specs.declared.DistanceCorrection.{DistanceCorrection}
+use Rattle.joints.specs.declared.AngleCorrection.{AngleCorrection}
+use Rattle.joints.specs.declared.AngleCorrection.the-variants as limit
+use Rattle.joints.specs.declared.motor.MotorModel.{MotorModel}
+use Rattle.joints.specs.declared.motor.MotorLagrange.{MotorLagrange}
+use Rattle.joints.specs.declared.motor.MotorLagrange.the-variants.{None, Some}
+use Rattle.joints.specs.declared.motor.AngularMotor.{AngularMotor}
+use Rattle.joints.specs.declared.motor.LinearMotor.{LinearMotor}
+use Rattle.solver_body.specs.Body.{effectiveInvMass}
+use Rattle.solver_body.specs.declared.BodyPair.{BodyPair}
+use Rattle.xpbd.specs.FixedAngle.{rotationDifference}
+use Rattle.xpbd.specs.Positional.{pushed, pulled, impulseApplied}
+use Rattle.xpbd.specs.Angular.{turned, angularImpulseApplied}
+use Rattle.xpbd_joints.specs.Stage.{unlessOff}
+use Rattle.xpbd_joints.specs.Revolute.{drivenBy, angularMotorGiven}
+use Rattle.xpbd_joints.specs.Prismatic.{drivenAlong, linearMotorGiven, slideCorrection}
+use Rattle.xpbd_joints.specs.Spherical.{swingCorrection, twistCorrection}
+use Rattle.laws.proofs.Place.{real, Held}
+use Rattle.stages.specs.Stage.{Reads, fixedPoint, fixedAngle, hingePoint, hingeAlign, hingeLimit, slideAngle, slideAlign, ballPoint, ballSwing, ballTwist, tether, positional, Entry, Stage, limitAsked, turned₁, turned₂, between, asked, correctionOf, impulseOf, appliedTo, afterOf}
+use Rattle.stages.specs.Steps.{Slot, added, Step, compliant, hingeMotor, slideMotor, Setting, Run, stageAt, isCalled, uncalled, hingeGiven, slideGiven, hingeDriven, slideDriven, stepped, run, MotorPush, pushMultiplier, Event, aStage, aPush, eventsOf, events}
+use Rattle.stages.proofs.Vec.{Finite3, Fits3, Held3, held3, add-fits3, sub-fits3, div-fits3, origin-fits3, root-fits, length-squared-fits, length-fits}
+use Rattle.stages.proofs.Back.{Calm, done-back, hinge-back, slide-back, run-back}
+
+pub record SoundStage (s : Stage) : Type 0 where
+  pub error-fits : T (fits binary32 (correctionOf (s .entry) .error))
+  pub n-fits : Fits3 (correctionOf (s .entry) .n)
+  pub soft-fits : T (fits binary32 (s .compliance))
+  pub soft-up : T (le f0 (s .compliance))
+  pub impulse : Finite3 (impulseOf s)
+  pub d₁ : Held3 (s .entry .bodies .body1 .«delta_position»)
+  pub d₂ : Held3 (s .entry .bodies .body2 .«delta_position»)
+  pub q₁ : Held3 (effectiveInvMass (s .entry .inertia1))
+  pub q₂ : Held3 (effectiveInvMass (s .entry .inertia2))
+
+-- what a motor gives: none, or a multiplier after the cap
+pub data Given (cap dt : Float) : MotorLagrange → Type 0 where
+  given-none : Given cap dt None
+  given-some : (x : Float) → T (fits binary32 x) → Given cap dt (Some (capped x cap dt))
+
+pub record SoundPush (p : MotorPush) : Type 0 where
+  pub cap-fits : T (fits binary32 (p .cap))
+  pub dt-held : Held binary32 (p .dt)
+  pub shape : Given (p .cap) (p .dt) (p .given)
+  pub no-nan : T (real (pushMultiplier (p .given)))
+
+abbrev pub EventSound : Event → Type 0
+EventSound (aStage s) = SoundStage s
+EventSound (aPush p) = SoundPush p
+
+-- ---- each of a list
+abbrev pub All : {A : Type 0} → (A → Type 0) → List A → Type 0
+All P [] = Unit
+All P (x ∷ l) = P x × All P l
+
+pub all-append : {A : Type 0} (P : A → Type 0) (l m : List A) → All P l → All P m → All P (l ++ m)
+all-append P [] m h k = k
+all-append P (x ∷ l) m h k = (h .0, all-append P l m (h .1) k)
+
+pub all-at : {A : Type 0} (P : A → Type 0) {x : A} {l : List A} → All P l → List·Memᴰ x l → P x
+all-at P h (List·Memᴰ·head e) = rw e (h .0)
+all-at P h (List·Memᴰ·tail m) = all-at P (h .1) m
+
+-- ---- what a joint brings
+pub record SettingOk (S : Setting) : Type 0 where
+  pub dt-held : Held binary32 (S .dt)
+  pub m₁ : Held3 (effectiveInvMass (S .inertia1))
+  pub m₂ : Held3 (effectiveInvMass (S .inertia2))
+
+abbrev pub StepOk : Step → Type 0
+StepOk (compliant l k α) = T (fits binary32 α) × T (le f0 α)
+StepOk (hingeMotor m a b c) = T (fits binary32 (m .«max_torque»))
+StepOk (slideMotor m a b c d) = T (fits binary32 (m .«max_force»))
+
+-- both displacements are of the format
+pub record Fit (b : BodyPair) : Type 0 where
+  pub p₁ : Fits3 (b .body1 .«delta_position»)
+  pub p₂ : Fits3 (b .body2 .«delta_position»)
+
+-- ---- errors and directions fit
+abbrev FitAsked : Float → Vec3 → Type 0
+FitAsked c n = T (fits binary32 c) × Fits3 n
+
+pick-fits : (u v w : Bool) (x y z : DistanceCorrection) → FitAsked (x .magnitude) (x .direction) → FitAsked (y .magnitude) (y .direction) → FitAsked (z .magnitude) (z .direction)
+    → FitAsked ((if u then z else if v then x else if w then y else z) .magnitude) ((if u then z else if v then x else if w then y else z) .direction)
+pick-fits true v w x y z h k l = l
+pick-fits false true w x y z h k l = h
+pick-fits false false true x y z h k l = k
+pick-fits false false false x y z h k l = l
+
+distance-fits : (l : DistanceLimit) (s : Vec3) → FitAsked (distanceCorrection l s .magnitude) (distanceCorrection l s .direction)
+unfolding distanceCorrection
+distance-fits l s =
+    let d = rootOf (lengthSquaredOf s) in
+    pick-fits (le (lengthSquaredOf s) epsilon) (lt d (l .min)) (lt (l .max) d) (record { direction = divOf s d; magnitude = l .min ⊖ d }) (record { direction = divOf (negOf s) d; magnitude = d ⊖ l .max }) uncorrected
+    (sub-fits binary32 (l .min) d, div-fits3 s d) (sub-fits binary32 d (l .max), div-fits3 (negOf s) d) (ofBits-fits binary32 0, origin-fits3)
+
+rotation-fits : (d : Vec3) → FitAsked (lengthOf d) (divOf d (lengthOf d))
+rotation-fits d = (length-fits d, div-fits3 d (lengthOf d))
+
+limit-fits : (e : Entry) (c : AngleCorrection) → FitAsked (limitAsked e c .error) (limitAsked e c .n)
+limit-fits e limit.None = (ofBits-fits binary32 0, origin-fits3)
+limit-fits e (limit.Some d) = rotation-fits d
+
+point-fits : (s : Vec3) → FitAsked (rootOf (lengthSquaredOf s)) (divOf (negOf s) (rootOf (lengthSquaredOf s)))
+point-fits s = (root-fits (lengthSquaredOf s) (length-squared-fits s), div-fits3 (negOf s) (rootOf (lengthSquaredOf s)))
+
+abbrev apart : Entry → Quat → Vec3
+apart e q = rotationDifference q (e .bodies .body1 .«delta_rotation») (e .bodies .body2 .«delta_rotation»)
+
+asked-fits : (k : Reads) (e : Entry) → FitAsked (asked k e .error) (asked k e .n)
+asked-fits (fixedPoint a b d) e = point-fits (between e a b d)
+asked-fits (fixedAngle q) e = rotation-fits (apart e q)
+asked-fits (hingePoint a b d) e = point-fits (between e a b d)
+asked-fits (hingeAlign a b) e = rotation-fits (crossOf (turned₁ e a) (turned₂ e b))
+asked-fits (hingeLimit l a₁ b₁ b₂) e = limit-fits e (angleCorrection l (turned₁ e a₁) (turned₁ e b₁) (turned₂ e b₂) pi)
+asked-fits (slideAngle q) e = rotation-fits (apart e q)
+asked-fits (slideAlign l a b d axis) e = rotation-fits (slideCorrection l (between e a b d) (turned₁ e axis))
+asked-fits (ballPoint a b d) e = point-fits (between e a b d)
+asked-fits (ballSwing l a₁ a₂) e = limit-fits e (swingCorrection l (turned₁ e a₁) (turned₂ e a₂))
+asked-fits (ballTwist l a₁ a₂ b₁ b₂) e = limit-fits e (twistCorrection l (turned₁ e a₁) (turned₂ e a₂) (turned₁ e b₁) (turned₂ e b₂) (e .dt))
+asked-fits (tether l a b d) e = distance-fits l (between e a b d)
+
+correction-fits : (e : Entry) → FitAsked (correctionOf e .error) (correctionOf e .n)
+unfolding correctionOf
+correction-fits e = asked-fits (e .reads) e
+
+-- ---- a motor's shape
+shape-if : (cap dt : Float) (v : Bool) (g h : MotorLagrange) → Given cap dt g → Given cap dt h → Given cap dt (if v then g else h)
+shape-if cap dt true g h x y = x
+shape-if cap dt false g h x y = y
+
+lagrange-shape : (model : MotorModel) (cap v x w h : Float) → Given cap h (motorLagrange model cap v x w h)
+unfolding motorLagrange
+lagrange-shape model cap v x w h =
+    let c = velocityChange model v x w h ⊗ h in
+    shape-if cap h (le (absOf c) epsilon) None (Some (capped (c ⊘ w) cap h)) given-none (given-some (c ⊘ w) (div-fits binary32 c w))
+
+off-shape : (enabled : Bool) (cap w h : Float) (g : MotorLagrange) → Given cap h g → Given cap h (unlessOff enabled w g)
+unfolding unlessOff
+off-shape enabled cap w h g k =
+    shape-if cap h (not enabled) None (if le w epsilon then None else g) given-none (shape-if cap h (le w epsilon) None g given-none k)
+
+hinge-shape : (S : Setting) (m : AngularMotor) (a₁ b₁ b₂ : Vec3) (b : BodyPair) → Given (m .«max_torque») (S .dt) (hingeGiven S m a₁ b₁ b₂ b)
+unfolding angularMotorGiven
+hinge-shape S m a₁ b₁ b₂ b = off-shape (m .enabled) (m .«max_torque») _ (S .dt) _ (lagrange-shape (m .«motor_model») (m .«max_torque») _ _ _ (S .dt))
+
+slide-shape : (S : Setting) (m : LinearMotor) (arm₁ arm₂ d axis : Vec3) (b : BodyPair) → Given (m .«max_force») (S .dt) (slideGiven S m arm₁ arm₂ d axis b)
+unfolding linearMotorGiven
+slide-shape S m arm₁ arm₂ d axis b = off-shape (m .enabled) (m .«max_force») _ (S .dt) _ (lagrange-shape (m .«motor_model») (m .«max_force») _ _ _ (S .dt))
+
+-- ---- displacements fit, step by step
+applied-fit : (q : Bool) (s : Stage) → Fit (s .entry .bodies) → Fit (appliedTo q s)
+unfolding impulseApplied pushed pulled angularImpulseApplied turned
+applied-fit true s f = record { p₁ = add-fits3 _ _; p₂ = sub-fits3 _ _ }
+applied-fit false s f = record { p₁ = f .p₁; p₂ = f .p₂ }
+
+after-fit : (s : Stage) → Fit (s .entry .bodies) → Fit (afterOf s)
+unfolding afterOf
+after-fit s f = applied-fit (positional (s .entry .reads)) s f
+
+uncalled-fit : (q : Bool) (l : Slot) (r : Run) → Fit (r .bodies) → Fit (uncalled q l r .bodies)
+uncalled-fit true l r f = f
+uncalled-fit false l r f = f
+
+done-fit : (v : Bool) (l : Slot) (s : Stage) (r : Run) → Fit (s .entry .bodies) → Fit (r .bodies)
+    → Fit ((if v then record { bodies = afterOf s; totals = added l (impulseOf s) (r .totals) } else uncalled (correctionOf (s .entry) .still) l r) .bodies)
+done-fit true l s r f g = after-fit s f
+done-fit false l s r f g = uncalled-fit (correctionOf (s .entry) .still) l r g
+
+hinge-fit : (S : Setting) (g : MotorLagrange) (a : Vec3) (r : Run) → Fit (r .bodies) → Fit (hingeDriven S g a r .bodies)
+unfolding drivenBy angularImpulseApplied turned
+hinge-fit S None a r f = f
+hinge-fit S (Some Δλ) a r f = record { p₁ = f .p₁; p₂ = f .p₂ }
+
+slide-fit : (S : Setting) (g : MotorLagrange) (r₁ r₂ a : Vec3) (r : Run) → Fit (r .bodies) → Fit (slideDriven S g r₁ r₂ a r .bodies)
+unfolding drivenAlong impulseApplied pushed pulled
+slide-fit S None r₁ r₂ a r f = f
+slide-fit S (Some Δλ) r₁ r₂ a r f = record { p₁ = add-fits3 _ _; p₂ = sub-fits3 _ _ }
+
+pub step-fit : (S : Setting) (s : Step) (r : Run) → Fit (r .bodies) → Fit (stepped S s r .bodies)
+step-fit S (compliant l k α) r f = done-fit (isCalled (stageAt S k α (r .bodies))) l (stageAt S k α (r .bodies)) r f f
+step-fit S (hingeMotor m a₁ b₁ b₂) r f = hinge-fit S (hingeGiven S m a₁ b₁ b₂ (r .bodies)) (turnOf (r .bodies .body1 .«delta_rotation») a₁) r f
+step-fit S (slideMotor m arm₁ arm₂ d axis) r f =
+    let q₁ = r .bodies .body1 .«delta_rotation» in
+    slide-fit S (slideGiven S m arm₁ arm₂ d axis (r .bodies)) (turnOf q₁ arm₁) (turnOf (r .bodies .body2 .«delta_rotation») arm₂) (turnOf q₁ axis) r f
+
+pub run-fit : (S : Setting) (l : List Step) (r : Run) → Fit (r .bodies) → Fit (run S l r .bodies)
+unfolding run
+run-fit S [] r f = f
+run-fit S (s ∷ l) r f = run-fit S l (stepped S s r) (step-fit S s r f)
+
+-- ---- a step's events
+listed : (v : Bool) (s : Stage) → (T v → SoundStage s) → All EventSound (if v then aStage s ∷ [] else [])
+listed true s h = (h tt, tt)
+listed false s h = tt
+
+step-sound : (S : Setting) → SettingOk S → (s : Step) → StepOk s → (r : Run) → Fit (r .bodies) → Calm (stepped S s r) → All EventSound (eventsOf S s (r .bodies))
+step-sound S o (compliant l k α) a r f h =
+    let s = stageAt S k α (r .bodies) in
+    let b = done-back (isCalled s) l s r refl h in
+    let c = correction-fits (s .entry) in
+    listed (isCalled s) s (λ (v : T (isCalled s)). record {
+      error-fits = c .0;
+      n-fits = c .1;
+      soft-fits = a .0;
+      soft-up = a .1;
+      impulse = b .1 v;
+      d₁ = held3 (r .bodies .body1 .«delta_position») (f .p₁) (b .0 .still .d₁);
+      d₂ = held3 (r .bodies .body2 .«delta_position») (f .p₂) (b .0 .still .d₂);
+      q₁ = o .m₁;
+      q₂ = o .m₂;
+    })
+step-sound S o (hingeMotor m a₁ b₁ b₂) a r f h =
+    let g = hingeGiven S m a₁ b₁ b₂ (r .bodies) in (
+      record {
+        cap-fits = a;
+        dt-held = o .dt-held;
+        shape = hinge-shape S m a₁ b₁ b₂ (r .bodies);
+        no-nan = hinge-back S g (turnOf (r .bodies .body1 .«delta_rotation») a₁) r h .1;
+      },
+      tt,
+    )
+step-sound S o (slideMotor m arm₁ arm₂ d axis) a r f h =
+    let q₁ = r .bodies .body1 .«delta_rotation» in
+    let g = slideGiven S m arm₁ arm₂ d axis (r .bodies) in (
+      record {
+        cap-fits = a;
+        dt-held = o .dt-held;
+        shape = slide-shape S m arm₁ arm₂ d axis (r .bodies);
+        no-nan = slide-back S g (turnOf q₁ arm₁) (turnOf (r .bodies .body2 .«delta_rotation») arm₂) (turnOf q₁ axis) r h .1;
+      },
+      tt,
+    )
+
+-- ---- a joint's
+pub steps-sound : (S : Setting) → SettingOk S → (l : List Step) → All StepOk l → (r : Run) → Fit (r .bodies) → Calm (run S l r) → All EventSound (events S l r)
+unfolding run events
+steps-sound S o [] a r f h = tt
+steps-sound S o (s ∷ l) a r f h =
+    all-append EventSound (eventsOf S s (r .bodies)) (events S l (stepped S s r)) (step-sound S o s (a .0) r f (run-back S l (stepped S s r) h)) (steps-sound S o l (a .1) (stepped S s r) (step-fit S s r f) h)
