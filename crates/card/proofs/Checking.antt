@@ -1,0 +1,22 @@
+-- The first of a list of checks that applies, check by check.
+use Prim.Native.Nat.{ℕ, zero, suc}
+use mathlib.Core.Path.{_≡_, refl}
+use mathlib.Core.Bool.{Bool, true, false}
+use mathlib.Core.List.{List, [], _∷_}
+use Rattle.card.specs.Checks.{Refusal, refuse, firstOf}
+
+pub data First : List Refusal → ℕ → Type 0 where
+  none : First [] 0
+  applies : {k : ℕ} {b : Bool} {checks : List Refusal} → b ≡ true → First (refuse k b ∷ checks) k
+  passes : {k n : ℕ} {b : Bool} {checks : List Refusal} → b ≡ false → First checks n → First (refuse k b ∷ checks) n
+
+pub first : {checks : List Refusal} {n : ℕ} → First checks n → n ≡ firstOf checks
+first none = refl
+first (applies e) = rw e
+first (passes e f) = rw e (first f)
+
+-- the checks behind the first k
+abbrev pub behind : ℕ → List Refusal → List Refusal
+behind zero checks = checks
+behind (suc k) [] = []
+behind (suc k) (check ∷ checks) = behind k checks

@@ -1,0 +1,10 @@
+pub mod Bools
+pub mod Floats
+pub mod Rows
+pub mod Loops
+pub mod Unused
+pub mod Checking
+pub mod Ranges
+pub mod Accepted
+pub mod Agreement
+pub mod Examples

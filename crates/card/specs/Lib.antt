@@ -1,0 +1,10 @@
+pub mod Layout
+pub mod Bits
+pub mod Loop
+pub mod Fields
+pub mod Records
+pub mod Checks
+pub mod Answer
+pub mod Accepted
+pub mod Agreement
+pub mod Examples

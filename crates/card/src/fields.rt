@@ -1,0 +1,224 @@
+// Which fields of a record have use, and what a float may be.
+ghost use mathlib.Core.Path.{_≡_};
+ghost use Rattle.card.specs.Fields.{knownKind, unknownKind, kindOf, allows, headerFields, bodyFields, jointFields, floatIn, floatOf, outside, outOf};
+use crate::records::BodyBits;
+use crate::records::JointBits;
+use scalar::MAX;
+
+// Whether a limit or a motor may be there.
+pub enum Presence {
+    Never,
+    Optional,
+    Always,
+}
+
+impl Presence {
+    pub fn allows(self, there: bool) -> bool
+        ensures { λ r. ⌜ r ≡ allows self there ⌝ }
+    {
+        match self {
+            Presence::Never => !there,
+            Presence::Optional => true,
+            Presence::Always => there,
+        }
+    }
+}
+
+// What a kind of joint has.
+pub struct JointKind {
+    pub known: bool,
+    pub bases: bool,
+    pub axis: bool,
+    pub compliances: u32,
+    pub first: Presence,
+    pub second: Presence,
+    pub motor: Presence,
+}
+
+fn known_kind(
+    bases: bool,
+    axis: bool,
+    compliances: u32,
+    first: Presence,
+    second: Presence,
+    motor: Presence,
+) -> JointKind
+    ensures { λ r. ⌜ r ≡ knownKind bases axis compliances first second motor ⌝ }
+{
+    JointKind {
+        known: true,
+        bases,
+        axis,
+        compliances,
+        first,
+        second,
+        motor,
+    }
+}
+
+fn unknown_kind() -> JointKind
+    ensures { λ r. ⌜ r ≡ unknownKind ⌝ }
+{
+    JointKind {
+        known: false,
+        bases: false,
+        axis: false,
+        compliances: 0,
+        first: Presence::Never,
+        second: Presence::Never,
+        motor: Presence::Never,
+    }
+}
+
+pub fn kind_of(kind: u32) -> JointKind
+    ensures { λ r. ⌜ r ≡ kindOf kind ⌝ }
+{
+    let never = Presence::Never;
+    let optional = Presence::Optional;
+    let always = Presence::Always;
+    match kind {
+        // fixed
+        0 => known_kind(true, false, 2, never, never, never),
+        // hinge
+        1 => known_kind(true, true, 3, optional, never, optional),
+        // slide
+        2 => known_kind(true, true, 2, optional, never, optional),
+        // ball
+        3 => known_kind(true, true, 3, optional, optional, never),
+        // tether
+        4 => known_kind(false, false, 1, always, never, never),
+        5.. => unknown_kind(),
+    }
+}
+
+pub enum Range {
+    // At most 1,024 in size.
+    Bounded,
+    // The same, and not below zero.
+    NotNegative,
+    // A motor's cap: from zero to f32::MAX.
+    Cap,
+}
+
+// Whether a float of a record has use, and what it may be.
+pub struct FloatUse {
+    pub used: bool,
+    pub range: Range,
+}
+
+// A record of the card, with the numbers that decide which of its floats have use.
+pub enum Form {
+    HeaderForm,
+    BodyForm(BodyBits),
+    JointForm(JointBits),
+}
+
+fn bounded(used: bool) -> FloatUse
+    ensures { λ r. ⌜ r ≡ record { used = used; range = Range.Bounded } ⌝ }
+{
+    FloatUse {
+        used,
+        range: Range::Bounded,
+    }
+}
+
+fn not_negative(used: bool) -> FloatUse
+    ensures { λ r. ⌜ r ≡ record { used = used; range = Range.NotNegative } ⌝ }
+{
+    FloatUse {
+        used,
+        range: Range::NotNegative,
+    }
+}
+
+fn header_float(n: usize) -> FloatUse
+    ensures { λ r. ⌜ r ≡ floatIn headerFields tt n ⌝ }
+{
+    match n {
+        // gravity
+        0 => bounded(true),
+        // warm coefficient
+        1 => not_negative(true),
+        2.. => bounded(false),
+    }
+}
+
+fn body_float(b: BodyBits, n: usize) -> FloatUse
+    ensures { λ r. ⌜ r ≡ floatIn bodyFields b n ⌝ }
+{
+    match n {
+        // position, rotation, centre of mass
+        0..=9 => bounded(true),
+        // linear and angular velocity
+        10..=15 => bounded(!b.anchored),
+        // inverse mass
+        16 => not_negative(!b.anchored),
+        // inverse inertia
+        17..=22 => bounded(!b.anchored),
+        23.. => bounded(false),
+    }
+}
+
+fn joint_float(b: JointBits, n: usize) -> FloatUse
+    ensures { λ r. ⌜ r ≡ floatIn jointFields b n ⌝ }
+{
+    let kind = kind_of(b.kind);
+    match n {
+        // anchors
+        0..=5 => bounded(true),
+        // bases
+        6..=13 => bounded(kind.bases),
+        // axis
+        14..=16 => bounded(kind.axis),
+        // compliances
+        17 => not_negative(0 < kind.compliances),
+        18 => not_negative(1 < kind.compliances),
+        19 => not_negative(2 < kind.compliances),
+        20 => not_negative(3 < kind.compliances),
+        // first and second limit
+        21..=22 => bounded(b.first),
+        23..=24 => bounded(b.second),
+        // motor: target velocity and position, cap, two model floats
+        25..=26 => bounded(b.motor != 0),
+        27 => FloatUse {
+            used: b.motor != 0,
+            range: Range::Cap,
+        },
+        28..=29 => bounded(b.motor != 0),
+        30.. => bounded(false),
+    }
+}
+
+impl Form {
+    pub fn float(self, n: usize) -> FloatUse
+        ensures { λ r. ⌜ r ≡ floatOf self n ⌝ }
+    {
+        match self {
+            Form::HeaderForm => header_float(n),
+            Form::BodyForm(b) => body_float(b, n),
+            Form::JointForm(b) => joint_float(b, n),
+        }
+    }
+}
+
+// Whether x is below low, above high, or a NaN.
+pub fn outside(x: f32, low: f32, high: f32) -> bool
+    ensures { λ r. ⌜ r ≡ outside x low high ⌝ }
+{
+    if low <= x {
+        return !(x <= high);
+    }
+    true
+}
+
+impl Range {
+    pub fn excludes(self, x: f32) -> bool
+        ensures { λ r. ⌜ r ≡ outOf self x ⌝ }
+    {
+        match self {
+            Range::Bounded => outside(x, -1024.0, 1024.0),
+            Range::NotNegative => outside(x, 0.0, 1024.0),
+            Range::Cap => outside(x, 0.0, MAX),
+        }
+    }
+}

@@ -1,0 +1,5 @@
+pub mod Signed
+pub mod Writes
+pub mod Starting
+pub mod Decoded
+pub mod StartState
