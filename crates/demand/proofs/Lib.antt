@@ -1,0 +1,8 @@
+pub mod Loops
+pub mod Anchored
+pub mod Calm
+pub mod Fitting
+pub mod Given
+pub mod Ticking
+pub mod Demand
+pub mod Sample

@@ -1,0 +1,1 @@
+// Demand 3 over whole ticks and lists of calls: definitions and proofs alone.

@@ -1,0 +1,29 @@
+use native.Mathlib.Omega.{arith}
+use borrow.Author.Needs.{needs}
+use Prim.Native.Nat.{ℕ, _≤_}
+use mathlib.Core.Path.{_≡_, sym}
+use mathlib.Core.List.{List}
+use lib.ListN.{length, take}
+use lib.Seq.{length-take-le}
+use lib.Ieee.{Float}
+use Rattle.card.specs.Layout.{maxBodies, maxJoints, stateLength}
+use Rattle.linkage.proofs.run_accepted.Statement.{statement}
+use Rattle.linkage.proofs.run_accepted.Tie as tie
+
+-- the part of the room that is lent
+lent : (n : ℕ) (room : List Float) → length room ≡ stateLength maxBodies maxJoints → n ≤ stateLength maxBodies maxJoints → length (take n room) ≡ n
+lent n room e h = length-take-le n room (omega (arith, e, h))
+
+slice-aggregate-start-and-run : tie.Need-slice-aggregate-start-and-run
+slice-aggregate-start-and-run c = sym (lent _ _ (c .before .largest-state .ensures) (omega arith))
+
+start-and-run-requires : tie.Need-start-and-run-requires
+start-and-run-requires c κs =
+    let h = c .before .before .before .before .args .h in
+    (omega arith, omega (arith, lent (stateLength (h .bodies) (h .joints)) (c .before .largest-state .result) (c .before .largest-state .ensures) (omega arith)))
+
+pub run-accepted-spec : {M : Type 1} → statement M
+run-accepted-spec =
+    tie.close
+    (tie.spec
+    (λ c. omega arith) (λ c. omega arith) (λ c. omega arith) (λ _ _. tt) (λ c. omega arith) slice-aggregate-start-and-run start-and-run-requires (λ _. tt))

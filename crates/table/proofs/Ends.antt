@@ -1,0 +1,102 @@
+-- The new numbers of the bodies, from the arrays.
+use Prim.Native.Nat.{ℕ, _+_, _*_, _≤_, _<_}
+use native.Mathlib.Omega.{arith}
+use mathlib.Core.Path.{_≡_, refl, sym, ap, subst, _∙_}
+use mathlib.Core.Bool.{Bool, true, false, not, _&&_}
+use mathlib.Core.List.{List, _++_}
+use lib.ListN.{length, getD, set, replicate, length-replicate}
+use lib.Seq.{sets}
+use lib.Dec.{T}
+use lib.Ieee.{Float}
+use Rattle.solver_body.specs.Body.{dummyBody}
+use Rattle.solver_body.specs.declared.SolverBody.{SolverBody}
+use Rattle.tick.specs.Body.{restingBody, bodyFault}
+use Rattle.tick.specs.Joint.{noTotals}
+use Rattle.tick.specs.declared.body.BodyState.{BodyState}
+use Rattle.tick.specs.declared.joint.JointTotals.{JointTotals}
+use Rattle.card.specs.Layout.{maxBodies, maxJoints, bodyNumbers}
+use Rattle.card.specs.Loop.{anyTo}
+use Rattle.card.proofs.Loops.{any-some, any-done}
+use Rattle.card_records.specs.State.{numbers3}
+use Rattle.card_records.proofs.Writes.{sets-append}
+use Rattle.table.specs.Loop.{after}
+use Rattle.table.specs.Tick.{bodyStateNumbers, totalsPlace, totalsNumbers, storeTotals}
+use Rattle.table.specs.Parts.{noTickBody, isValid, finishedOr, finishedAt, NewBodiesOf, storeNew}
+use Rattle.table.specs.declared.load.TickBody.{TickBody}
+use Rattle.table.specs.declared.store.NewBodies.{NewBodies}
+use Rattle.table.proofs.Loops.{getD-in, after-done, fill, fill-length, fill-at}
+use Rattle.table.proofs.Turns.{unreadBody, unreadTickBody, unreadState, unreadTotals}
+
+module _ (table : List TickBody) (pre bodies : List SolverBody) (dt : Float) where
+  -- what the loop works out, by the machine's reads
+  pub finish-is : (i : ℕ) → i < maxBodies → length table ≡ maxBodies → length pre ≡ maxBodies → length bodies ≡ maxBodies
+      → finishedOr (getD table i unreadTickBody) (getD pre i unreadBody) (getD bodies i unreadBody) dt ≡ finishedAt table pre bodies dt i
+  unfolding finishedAt
+  finish-is i h e₁ e₂ e₃ =
+      rw (
+        getD-in table i unreadTickBody noTickBody (rw e₁ h),
+        getD-in pre i unreadBody dummyBody (rw e₂ h),
+        getD-in bodies i unreadBody dummyBody (rw e₃ h),
+      )
+
+true-not-false : true ≡ false → ⊥
+true-not-false e = subst T e tt
+
+module _ (new : ℕ → BodyState) (n : ℕ) (few : n ≤ maxBodies) where
+  abbrev filled : ℕ → List BodyState
+  filled i = after (fill new) (replicate maxBodies restingBody) i
+
+  filled-length : (i : ℕ) → length (filled i) ≡ maxBodies
+  filled-length i = fill-length new (replicate maxBodies restingBody) i ∙ length-replicate maxBodies restingBody
+
+  pub new-stopped : (i : ℕ) (l : List BodyState) → i < n → l ≡ filled i → bodyFault (new i) ≡ true
+      → NewBodiesOf new n (record { stopped = true; bodies = l })
+  new-stopped i l h e f =
+      record {
+        places = ap (λ t. length t) e ∙ filled-length i;
+        fault = sym (any-some (λ m. bodyFault (new m)) i n h f);
+        each = λ x. absurd (true-not-false x);
+      }
+
+  pub new-done : (i : ℕ) (l : List BodyState) → i ≤ n → n ≤ i → anyTo (λ m. bodyFault (new m)) i ≡ false → l ≡ filled i
+      → NewBodiesOf new n (record { stopped = false; bodies = l })
+  new-done i l a b q e =
+      let f = after-done (fill new) (replicate maxBodies restingBody) e a b in
+      record {
+        places = ap (λ t. length t) e ∙ filled-length i;
+        fault = any-done (λ m. bodyFault (new m)) q a b;
+        each =
+            λ _ m k.
+            ap (λ t. getD t m restingBody) f
+            ∙ fill-at new (replicate maxBodies restingBody) restingBody m n k (rw (length-replicate maxBodies restingBody) few);
+      }
+
+-- ---- the writes
+
+module _ (table : List TickBody) (new : List BodyState) (i : ℕ) (h : i < maxBodies) (e₁ : length table ≡ maxBodies) (e₂ : length new ≡ maxBodies) (s : List Float) where
+  index-read : getD table i unreadTickBody .index ≡ getD table i noTickBody .index
+  index-read = ap (λ (t : TickBody). t .index) (getD-in table i unreadTickBody noTickBody (rw e₁ h))
+
+  pub store-turn : {k : Bool} {t : List Float} → k ≡ isValid (getD table i unreadTickBody .index) → k ≡ true
+      → t ≡ sets s (bodyNumbers * i) (bodyStateNumbers (getD new i unreadState)) → t ≡ storeNew table new i s
+  store-turn {k} ek et es = rw (es, getD-in new i unreadState restingBody (rw e₂ h), ← index-read, ← ek, et)
+
+  pub store-skip : {k : Bool} → k ≡ isValid (getD table i unreadTickBody .index) → k ≡ false → s ≡ storeNew table new i s
+  store-skip {k} ek et = rw (← index-read, ← ek, et)
+
+-- a joint's four totals, one behind the other
+pub totals-written : (u : JointTotals) (s : List Float) (at : ℕ) {s₁ s₂ s₃ s₄ : List Float}
+    → s₁ ≡ sets s at (numbers3 (u .first)) → s₂ ≡ sets s₁ (at + 3) (numbers3 (u .second)) → s₃ ≡ sets s₂ (at + 6) (numbers3 (u .third))
+    → s₄ ≡ sets s₃ (at + 9) (numbers3 (u .fourth)) → s₄ ≡ sets s at (totalsNumbers u)
+totals-written u s at e₁ e₂ e₃ e₄ =
+    let n₁ = numbers3 (u .first) in
+    let n₂ = numbers3 (u .second) in
+    let n₃ = numbers3 (u .third) in
+    let n₄ = numbers3 (u .fourth) in
+    let f₂ = e₂ ∙ ap (λ (t : List Float). sets t (at + 3) n₂) e₁ ∙ sets-append s at n₁ n₂ in
+    let f₃ = e₃ ∙ ap (λ (t : List Float). sets t (at + 6) n₃) f₂ ∙ sets-append s at (n₁ ++ n₂) n₃ in
+    e₄ ∙ ap (λ (t : List Float). sets t (at + 9) n₄) f₃ ∙ sets-append s at (n₁ ++ n₂ ++ n₃) n₄
+
+pub totals-turn : (bodies : ℕ) (totals : List JointTotals) (j : ℕ) → j < maxJoints → length totals ≡ maxJoints → (s : List Float) {t : List Float}
+    → t ≡ sets s (totalsPlace bodies j) (totalsNumbers (getD totals j unreadTotals)) → t ≡ storeTotals bodies totals j s
+totals-turn bodies totals j h e s et = rw (et, getD-in totals j unreadTotals noTotals (rw e h))

@@ -1,0 +1,4 @@
+pub mod Loops
+pub mod Turns
+pub mod Ends
+pub mod Ticking

@@ -1,0 +1,215 @@
+-- What a tick and a run answer at each of their returns.
+use Prim.Native.Nat.{ℕ, zero, suc, _+_, _*_, _≤_, _<_}
+use native.Mathlib.Omega.{arith}
+use mathlib.Core.Path.{_≡_, refl, sym, ap, subst, _∙_}
+use mathlib.Core.Bool.{Bool, true, false, not, _&&_}
+use mathlib.Core.List.{List, [], _∷_}
+use lib.ListN.{length, getD, set, replicate, length-set, length-replicate}
+use lib.Seq.{sets}
+use lib.Dec.{T, eqb, eqb→eq}
+use lib.Ieee.{Float, lt, ofBits}
+use borrow.Author.Tests.{eq-eqb, ne-eqb}
+use Rattle.scalar.specs.Arith.{if_then_else_}
+use Rattle.scalar.specs.Scalar.{isFinite}
+use Rattle.solver_body.specs.Body.{dummyBody}
+use Rattle.solver_body.specs.declared.SolverBody.{SolverBody}
+use Rattle.tick.specs.Finite.{finite3, finite4}
+use Rattle.tick.specs.Body.{restingBody, tooFar, bodyFault}
+use Rattle.tick.specs.Joint.{noTotals, totalsOf, jointFinite}
+use Rattle.tick.specs.declared.body.BodyState.{BodyState}
+use Rattle.card.specs.Layout.{maxBodies, maxJoints, bodyNumbers, stateLength}
+use Rattle.card.specs.Loop.{anyTo}
+use Rattle.card.specs.Records.{headerAt, dtOf}
+use Rattle.card.specs.Checks.{Refusal, refuse, firstOf, checkOf}
+use Rattle.card.specs.Accepted.{Accepted}
+use Rattle.card.specs.declared.records.Header.{Header}
+use Rattle.card_records.specs.State.{numberFault, stateFault, orElse, checkStateOf, Answered, answered}
+use Rattle.card_records.proofs.Starting.{state-refused, state-accepted}
+use Rattle.table.specs.Loop.{after}
+use Rattle.table.specs.Tick.{bodyStateNumbers, storeTotals, anchoredAt, rigidAt, preSolve, firstBody, secondBody, putMoving, putSolved, solvedAt, stop, solveNext, before, newBody, newFault, storeBody, stored, finished, tickAccepted}
+use Rattle.table.specs.Run.{tickOf, tickNext, runOf}
+use Rattle.table.specs.Parts.{SoundCard, SoundState, tickBodyAt, noTickBody, TickBodies, isValid, finishedOr, finishedAt, NewBodiesOf, storeNew, tickChecked}
+use Rattle.table.specs.declared.load.TickBody.{TickBody}
+use Rattle.table.specs.declared.solve.Solved.{Solved}
+use Rattle.table.specs.declared.store.NewBodies.{NewBodies}
+use Rattle.table.proofs.Loops.{after-none, after-more, after-kept, after-all, after-same, any-same}
+use Rattle.table.proofs.Turns.{valid-as, moving-length, pre-length}
+
+-- ---- the solve keeps the arrays' lengths
+
+pub record Places (σ : Solved) : Type 0 where
+  pub bodies : length (σ .bodies) ≡ maxBodies
+  pub totals : length (σ .totals) ≡ maxJoints
+
+module _ (card : List ℕ) (h : Header) (s : List Float) where
+  next-places : (u v : Bool) (σ τ : Solved) → Places σ → Places τ → Places (if u then σ else if v then τ else stop card h s σ)
+  next-places true v σ τ p q = p
+  next-places false true σ τ p q = q
+  next-places false false σ τ p q = record { bodies = p .bodies; totals = p .totals }
+
+  put-places : (j : ℕ) (σ : Solved) → Places σ → Places (putSolved card h s j (solvedAt card h s j (σ .bodies)) σ)
+  put-places j σ p =
+      let f = firstBody card h s j in
+      let r = solvedAt card h s j (σ .bodies) in
+      record {
+        bodies =
+            moving-length (anchoredAt card (secondBody card h s j)) (putMoving card f (r .bodies .body1) (σ .bodies)) (secondBody card h s j) (r .bodies .body2)
+            ∙ moving-length (anchoredAt card f) (σ .bodies) f (r .bodies .body1) ∙ p .bodies;
+        totals = length-set (σ .totals) j (totalsOf (r .joint)) ∙ p .totals;
+      }
+
+  pub places : (j : ℕ) → Places (before card h s j)
+  unfolding before solveNext
+  places j =
+      after-all (solveNext card h s) (record { stopped = false; bodies = preSolve card h s; totals = replicate maxJoints noTotals }) Places
+      (record { bodies = pre-length card h s; totals = length-replicate maxJoints noTotals })
+      (λ m σ p. next-places (σ .stopped) (jointFinite (solvedAt card h s m (σ .bodies))) σ (putSolved card h s m (solvedAt card h s m (σ .bodies)) σ) p (put-places m σ p)) j
+
+-- ---- the new numbers
+
+resting-fine : bodyFault restingBody ≡ false
+unfolding bodyFault finite3 finite4 isFinite tooFar lt ofBits
+resting-fine = refl
+
+fault-as : (a : Bool) (b : BodyState) → bodyFault (if not a then b else restingBody) ≡ (not a && bodyFault b)
+fault-as true b = resting-fine
+fault-as false b = refl
+
+store-as : (a : Bool) (b : BodyState) (i : ℕ) (t : List Float)
+    → (if not a then sets t (bodyNumbers * i) (bodyStateNumbers (if not a then b else restingBody)) else t) ≡ (if a then t else sets t (bodyNumbers * i) (bodyStateNumbers b))
+store-as true b i t = refl
+store-as false b i t = refl
+
+at-fault : (u v : Bool) (a b : Answered) → u ≡ false → v ≡ true → (if u then a else if v then a else b) ≡ a
+at-fault u v a b e f = rw (e, f)
+
+at-end : (u v : Bool) (a b : Answered) → u ≡ false → v ≡ false → (if u then a else if v then a else b) ≡ b
+at-end u v a b e f = rw (e, f)
+
+module _ (card : List ℕ) (h : Header) (s : List Float) (S : SoundCard card h) {table : List TickBody} (B : TickBodies card s (h .bodies) table)
+    {pre : List SolverBody} (ep : pre ≡ preSolve card h s) {σ : Solved} (eσ : σ ≡ before card h s (h .joints)) where
+  abbrev new : ℕ → BodyState
+  new i = finishedAt table pre (σ .bodies) (dtOf h) i
+
+  valid-is : (i : ℕ) → i < h .bodies → isValid (getD table i noTickBody .index) ≡ not (anchoredAt card i)
+  unfolding tickBodyAt
+  valid-is i k = rw (B .each i k) (valid-as (anchoredAt card i) i (omega (arith, k, S .few-bodies)))
+
+  rigid-is : (i : ℕ) → i < h .bodies → getD table i noTickBody .rigid ≡ rigidAt card s i
+  unfolding tickBodyAt
+  rigid-is i k = rw (B .each i k)
+
+  new-is : (i : ℕ) → i < h .bodies → new i ≡ (if not (anchoredAt card i) then newBody card h s σ i else restingBody)
+  unfolding finishedAt finishedOr newBody
+  new-is i k = rw (valid-is i k, rigid-is i k, ep)
+
+  fault-is : (i : ℕ) → i < h .bodies → bodyFault (new i) ≡ newFault card h s σ i
+  unfolding newFault
+  fault-is i k = ap bodyFault (new-is i k) ∙ fault-as (anchoredAt card i) (newBody card h s σ i)
+
+  solved : finished card h s σ ≡ tickAccepted card h s
+  unfolding tickAccepted
+  solved = ap (λ τ. finished card h s τ) eσ
+
+  pub accepted-stopped : σ .stopped ≡ true → answered 13 s ≡ tickAccepted card h s
+  unfolding finished
+  accepted-stopped e = rw (← solved, e)
+
+  module _ {r : NewBodies} (N : NewBodiesOf new (h .bodies) r) (go : σ .stopped ≡ false) where
+    faults : r .stopped ≡ anyTo (newFault card h s σ) (h .bodies)
+    faults = N .fault ∙ any-same (λ i. bodyFault (new i)) (newFault card h s σ) (h .bodies) fault-is
+
+    pub accepted-fault : r .stopped ≡ true → answered 13 s ≡ tickAccepted card h s
+    unfolding finished
+    accepted-fault e = sym (at-fault (σ .stopped) (anyTo (newFault card h s σ) (h .bodies)) _ _ go (sym faults ∙ e)) ∙ solved
+
+    store-is : r .stopped ≡ false → (i : ℕ) → i < h .bodies → (t : List Float) → storeNew table (r .bodies) i t ≡ storeBody card h s σ i t
+    store-is e i k t = rw (valid-is i k, N .each e i k, new-is i k) (store-as (anchoredAt card i) (newBody card h s σ i) i t)
+
+    pub accepted-done : r .stopped ≡ false → {s₁ s₂ : List Float} → s₁ ≡ after (storeNew table (r .bodies)) s (h .bodies)
+        → s₂ ≡ after (storeTotals (h .bodies) (σ .totals)) s₁ (h .joints) → answered 0 s₂ ≡ tickAccepted card h s
+    unfolding finished stored
+    accepted-done e e₁ e₂ =
+        let same = e₁ ∙ after-same (storeNew table (r .bodies)) (storeBody card h s σ) s (h .bodies) (store-is e) in
+        ap (λ t. answered 0 t) (e₂ ∙ ap (λ t. after (storeTotals (h .bodies) (σ .totals)) t (h .joints)) same)
+        ∙ sym (at-end (σ .stopped) (anyTo (newFault card h s σ) (h .bodies)) _ _ go (sym faults ∙ e))
+        ∙ solved
+
+-- ---- the checks
+
+pub sound : (card : List ℕ) → Accepted card → {h : Header} → h ≡ headerAt card → SoundCard card h
+sound card A e =
+    rw e (record {
+      few-bodies = A .few-bodies;
+      few-joints = A .few-joints;
+      most-rate = A .most-rate;
+      whole = A .whole;
+      first = λ j k. A .joint j k .body1;
+      second = λ j k. A .joint j k .body2;
+    })
+
+first-passed : (a : Bool) (checks : List Refusal) → firstOf (refuse 11 (not a) ∷ checks) ≡ 0 → a ≡ true
+first-passed true checks e = refl
+first-passed false checks e = absurd (omega (arith, e))
+
+pub length-passed : (h : Header) (s : List Float) → stateFault (h .bodies) (h .joints) s ≡ 0 → SoundState h s
+unfolding stateFault
+length-passed h s e =
+    let whole = eqb (length s) (stateLength (h .bodies) (h .joints)) in
+    eqb→eq (length s) (stateLength (h .bodies) (h .joints)) (subst T (sym (first-passed whole (refuse 12 (anyTo (numberFault (h .bodies) s) (length s)) ∷ []) e)) tt)
+
+none-first : (m n : ℕ) → orElse m n ≡ 0 → m ≡ 0
+unfolding orElse
+none-first zero n e = refl
+none-first (suc m) n e = e
+
+module _ (card : List ℕ) (s : List Float) where
+  pub checked-refused : (h : Header) (k : ℕ) → k ≡ stateFault (h .bodies) (h .joints) s → (k ≡ 0 → ⊥) → answered k s ≡ tickChecked card h s
+  unfolding tickChecked
+  checked-refused h k e x = rw (← e, ne-eqb k 0 x)
+
+  pub checked-accepted : (h : Header) → stateFault (h .bodies) (h .joints) s ≡ 0 → tickAccepted card h s ≡ tickChecked card h s
+  unfolding tickChecked
+  checked-accepted h e = rw (eq-eqb _ _ e)
+
+  pub card-passed : checkStateOf card s ≡ 0 → checkOf card ≡ 0
+  unfolding checkStateOf
+  card-passed e = none-first (checkOf card) _ e
+
+  pub tick-refused : (k : ℕ) → k ≡ checkOf card → (k ≡ 0 → ⊥) → answered k s ≡ tickOf card s
+  unfolding tickOf
+  tick-refused k e x = rw (← state-refused card s k e x, ne-eqb k 0 x)
+
+  pub tick-checked : checkOf card ≡ 0 → {h : Header} → h ≡ headerAt card → tickChecked card h s ≡ tickOf card s
+  unfolding tickOf tickChecked
+  tick-checked e eh = rw (eh, state-accepted card s e refl)
+
+-- ---- a run
+
+module _ (card : List ℕ) (s₀ : List Float) where
+  pub run-refused : (k : ℕ) → k ≡ checkStateOf card s₀ → (k ≡ 0 → ⊥) → (ticks : ℕ) → answered k s₀ ≡ runOf card s₀ ticks
+  unfolding runOf tickNext
+  run-refused k e x ticks =
+      let start = answered (checkStateOf card s₀) s₀ in
+      sym (after-kept (tickNext card) start 0 ticks (omega arith) (λ m. rw (after-none (tickNext card) start, ← e, ne-eqb k 0 x)) ∙ rw (after-none (tickNext card) start, e))
+
+  pub run-none : checkStateOf card s₀ ≡ 0 → answered 0 s₀ ≡ runOf card s₀ 0
+  unfolding runOf
+  run-none e = rw (after-none, e)
+
+  module _ (i : ℕ) {s s′ : List Float} {k : ℕ} (inv : answered 0 s ≡ runOf card s₀ i) (e : answered k s′ ≡ tickOf card s) where
+    turn : answered k s′ ≡ runOf card s₀ (i + 1)
+    unfolding runOf tickNext
+    turn = rw (after-more, ← inv) e
+
+    pub run-more : k ≡ 0 → answered 0 s′ ≡ runOf card s₀ (i + 1)
+    run-more z = rw z at turn
+
+    pub run-stop : {ticks : ℕ} → i < ticks → (k ≡ 0 → ⊥) → answered k s′ ≡ runOf card s₀ ticks
+    unfolding runOf tickNext
+    run-stop {ticks} h r =
+        turn
+        ∙ sym (after-kept (tickNext card) (answered (checkStateOf card s₀) s₀) (i + 1) ticks (omega arith) (λ m. rw (← turn, ne-eqb k 0 r)))
+
+  pub run-done : {i ticks : ℕ} {s : List Float} → answered 0 s ≡ runOf card s₀ i → i ≤ ticks → ticks ≤ i → answered 0 s ≡ runOf card s₀ ticks
+  run-done {i} {ticks} {s} inv a b = let q : ticks ≡ i = omega arith in rw q inv

@@ -1,0 +1,49 @@
+use Prim.Native.Nat.{_-_, _≤_}
+use native.Mathlib.Omega.{arith}
+use mathlib.Core.Path.{_≡_, refl, sym}
+use lib.ListN.{length, length-set}
+use Rattle.table.specs.Loop.{after}
+use Rattle.table.specs.Parts.{storeNew}
+use Rattle.table.proofs.Loops.{after-none, after-turn, after-done}
+use Rattle.table.proofs.Ends.{store-turn, store-skip}
+use Rattle.table.proofs.store.store_bodies.Statement.{statement}
+use Rattle.table.proofs.store.store_bodies.Tie as tie
+
+abbrev Inv-loop : tie.InvT-loop
+Inv-loop count state₀ table new i₀ state i = (i ≤ count) × (length state ≡ length state₀) × (state ≡ after (storeNew table new) state₀ i)
+
+abbrev μ-loop : tie.MeasureT-loop
+μ-loop count state₀ table new i₀ state i = count - i
+
+loop-holds : tie.Need-loop-holds Inv-loop μ-loop
+loop-holds c = (omega arith, refl, sym (after-none _ _))
+
+loop-again : tie.Need-loop-again Inv-loop μ-loop
+loop-again c =
+    let k = c .before .before .before .before .before .before .before .before in
+    let l = k .before .loop in
+    let a = c .before .before .before .before .before .before .before .before .before .before .before in
+    let w = c .before .before .write-body .ensures in (
+      omega (arith, l .inv .0, k .loop-test .taken),
+      rw w (simp length-set (l .inv .1)),
+      after-turn _ _ (l .inv .2) (store-turn (a .args .t2) (a .args .t3) (l .i) (omega (arith, k .loop-test .taken, a .pre .0)) (a .pre .2) (a .pre .3) (l .state) (c .before .before .before .before .before .before .is-valid .ensures) (c .before .before .before .before .before .if1 .taken) w),
+    )
+
+loop-again-2 : tie.Need-loop-again-2 Inv-loop μ-loop
+loop-again-2 c =
+    let k = c .before .before .before in
+    let l = k .before .loop in
+    let a = c .before .before .before .before .before .before in (
+      omega (arith, l .inv .0, k .loop-test .taken),
+      l .inv .1,
+      after-turn _ _ (l .inv .2) (store-skip (a .args .t2) (a .args .t3) (l .i) (omega (arith, k .loop-test .taken, a .pre .0)) (a .pre .2) (a .pre .3) (l .state) (c .before .is-valid .ensures) (c .if1 .left)),
+    )
+
+same-length : tie.Need-same-length Inv-loop μ-loop
+same-length c = c .before .loop .inv .1
+
+returns : tie.Need-returns Inv-loop μ-loop
+returns c = let l = c .before .loop in after-done _ _ (l .inv .2) (l .inv .0) (c .loop-test .left)
+
+pub store-bodies-spec : {M : Type 1} → statement M
+store-bodies-spec = tie.close (tie.spec Inv-loop μ-loop loop-holds (λ c. omega (arith, c .loop-test .taken, c .before .loop .inv .0, c .before .before .before .pre .0)) (λ c. omega (arith, c .loop-test .taken, c .before .loop .inv .0, c .before .before .before .pre .0)) (λ _ _. tt) (λ c. omega (arith, c .before .before .before .loop-test .taken, c .before .before .before .before .loop .inv .0, c .before .before .before .before .before .before .pre .0)) (λ c. omega (arith, c .before .before .before .loop-test .taken, c .before .before .before .before .loop .inv .0, c .before .before .before .before .before .before .pre .0)) (λ c κs. let l = c .before .before .before .before .before .before .loop in omega (arith, c .before .before .before .before .before .loop-test .taken, l .inv .1, c .before .before .before .before .before .before .before .before .pre .1)) (λ c. omega (arith, c .before .before .before .before .before .before .before .before .loop-test .taken, c .before .before .before .before .before .before .before .before .before .loop .inv .0, c .before .before .before .before .before .before .before .before .before .before .before .pre .0)) (λ c. omega (arith, c .before .before .before .before .before .before .before .before .loop-test .taken, c .before .before .before .before .before .before .before .before .before .loop .inv .0, c .before .before .before .before .before .before .before .before .before .before .before .pre .0)) loop-again (λ c. omega (arith, c .before .before .before .loop-test .taken, c .before .before .before .before .loop .inv .0, c .before .before .before .before .before .before .pre .0)) (λ c. omega (arith, c .before .before .before .loop-test .taken, c .before .before .before .before .loop .inv .0, c .before .before .before .before .before .before .pre .0)) loop-again-2 same-length returns)

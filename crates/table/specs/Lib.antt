@@ -1,0 +1,4 @@
+pub mod Loop
+pub mod Tick
+pub mod Run
+pub mod Parts

@@ -1,0 +1,121 @@
+-- What the parts of a tick ask for and hand to each other, for their own contracts: Tick.antt needs none of it.
+use Prim.Native.Nat.{ℕ, _+_, _*_, _≤_, _<_}
+use mathlib.Core.Bool.{Bool, true, false, not}
+use mathlib.Core.Path.{_≡_}
+use mathlib.Core.List.{List}
+use lib.ListN.{length, getD}
+use lib.Dec.{eqb}
+use lib.Seq.{sets}
+use lib.Ieee.{Float}
+use Rattle.scalar.specs.Arith.{if_then_else_}
+use Rattle.vector.specs.Vector.{origin}
+use Rattle.vector.specs.Rotation.{identity}
+use Rattle.solver_body.specs.Body.{dummyBody, dummyInertia}
+use Rattle.solver_body.specs.declared.RigidBody.{RigidBody}
+use Rattle.solver_body.specs.declared.SolverBody.{SolverBody}
+use Rattle.solver_body.specs.declared.SolverBodyIndex.{SolverBodyIndex}
+use Rattle.solver_body.specs.declared.BodyPair.{BodyPair}
+use Rattle.xpbd_plugin.specs.Plugin.{dominatedOf}
+use Rattle.xpbd_plugin.specs.Joint.{jointPrepared, jointWarmStarted, jointSolved}
+use Rattle.xpbd_plugin.specs.declared.InertiaPair.{InertiaPair}
+use Rattle.xpbd_plugin.specs.declared.PreparedJoint.{PreparedJoint}
+use Rattle.tick.specs.Body.{integrated, restingBody, finishedBody, bodyFault}
+use Rattle.tick.specs.Joint.{warmValue, resultOf}
+use Rattle.tick.specs.declared.body.BodyState.{BodyState}
+use Rattle.tick.specs.declared.joint.JointResult.{JointResult}
+use Rattle.card.specs.Layout.{maxBodies, maxJoints, maxRate, jointPlace, bodyNumbers, stateLength}
+use Rattle.card.specs.Loop.{anyTo}
+use Rattle.card.specs.Records.{jointBits, dtOf}
+use Rattle.card.specs.declared.records.Header.{Header}
+use Rattle.card_records.specs.Decode.{inertiaAt, jointAt}
+use Rattle.card_records.specs.State.{stateFault, Answered, answered}
+use Rattle.table.specs.Tick.{bodyStateNumbers, totalsAt, anchoredAt, rigidAt, knownJoint, tickAccepted}
+use Rattle.table.specs.declared.load.TickBody.{TickBody}
+use Rattle.table.specs.declared.store.NewBodies.{NewBodies}
+
+-- what no check refuses has this
+pub record SoundCard (card : List ℕ) (h : Header) : Type 0 where
+  pub few-bodies : h .bodies ≤ maxBodies
+  pub few-joints : h .joints ≤ maxJoints
+  pub most-rate : h .rate ≤ maxRate
+  pub whole : length card ≡ jointPlace (h .bodies) (h .joints)
+  pub first : (j : ℕ) → j < h .joints → jointBits card (h .bodies) j .body1 < h .bodies
+  pub second : (j : ℕ) → j < h .joints → jointBits card (h .bodies) j .body2 < h .bodies
+
+abbrev pub SoundState : Header → List Float → Type 0
+SoundState h s = length s ≡ stateLength (h .bodies) (h .joints)
+
+-- ---- bodies
+
+-- an anchored body has no place among the solver's bodies
+unfoldable pub indexOf : Bool → ℕ → SolverBodyIndex
+indexOf anchored i = record { 0 = if anchored then 4294967295 else i }
+
+unfoldable pub tickBodyAt : List ℕ → List Float → ℕ → TickBody
+tickBodyAt card s i =
+    record { index = indexOf (anchoredAt card i) i; rigid = rigidAt card s i; inertia = inertiaAt card i }
+
+abbrev pub noTickBody : TickBody
+noTickBody =
+    record {
+      index = record { 0 = 4294967295 };
+      rigid = record { position = origin; rotation = identity; «center_of_mass» = origin };
+      inertia = dummyInertia;
+    }
+
+-- the bodies, each in its place
+pub record TickBodies (card : List ℕ) (s : List Float) (bodies : ℕ) (table : List TickBody) : Type 0 where
+  pub places : length table ≡ maxBodies
+  pub each : (i : ℕ) → i < bodies → getD table i noTickBody ≡ tickBodyAt card s i
+
+abbrev pub isValid : SolverBodyIndex → Bool
+isValid k = not (eqb (k .0) 4294967295)
+
+-- an anchored body stays as it is
+unfoldable pub moved : SolverBodyIndex → SolverBody → SolverBody → SolverBody
+moved k old new = if isValid k then new else old
+
+unfoldable pub integratedOr : TickBody → SolverBody → Float → Float → SolverBody
+integratedOr t b g dt = moved (t .index) b (integrated b (t .inertia) g dt)
+
+unfoldable pub finishedOr : TickBody → SolverBody → SolverBody → Float → BodyState
+finishedOr t pre b dt = if isValid (t .index) then finishedBody (t .rigid) pre b dt else restingBody
+
+-- body i's new numbers, by the arrays
+unfoldable pub finishedAt : List TickBody → List SolverBody → List SolverBody → Float → ℕ → BodyState
+finishedAt table pre bodies dt i = finishedOr (getD table i noTickBody) (getD pre i dummyBody) (getD bodies i dummyBody) dt
+
+-- the new numbers of n bodies, where none is at fault
+pub record NewBodiesOf (new : ℕ → BodyState) (n : ℕ) (r : NewBodies) : Type 0 where
+  pub places : length (r .bodies) ≡ maxBodies
+  pub fault : r .stopped ≡ anyTo (λ i. bodyFault (new i)) n
+  pub each : r .stopped ≡ false → (i : ℕ) → i < n → getD (r .bodies) i restingBody ≡ new i
+
+abbrev pub storeNew : List TickBody → List BodyState → ℕ → List Float → List Float
+storeNew table new i s =
+    if isValid (getD table i noTickBody .index) then sets s (bodyNumbers * i) (bodyStateNumbers (getD new i restingBody)) else s
+
+-- ---- joints
+
+module _ (card : List ℕ) (h : Header) (s : List Float) (j : ℕ) where
+  unfoldable pub preparedWith : RigidBody → RigidBody → PreparedJoint
+  preparedWith r₁ r₂ =
+      let joint = knownJoint (jointAt card (h .bodies) j) in
+      jointPrepared joint r₁ r₂ (warmValue joint (totalsAt s (h .bodies) j) (dtOf h))
+
+  unfoldable pub warmStartedWith : TickBody → TickBody → BodyPair → BodyPair
+  warmStartedWith t₁ t₂ b =
+      let i = dominatedOf (t₁ .inertia) (t₂ .inertia) in
+      jointWarmStarted (preparedWith (t₁ .rigid) (t₂ .rigid)) b (i .inertia1) (i .inertia2) (h .«warm_coefficient») .bodies
+
+  unfoldable pub solvedWith : TickBody → TickBody → BodyPair → JointResult
+  solvedWith t₁ t₂ b =
+      let i = dominatedOf (t₁ .inertia) (t₂ .inertia) in
+      resultOf (jointSolved (preparedWith (t₁ .rigid) (t₂ .rigid)) b (i .inertia1) (i .inertia2) (dtOf h))
+
+-- ---- a tick of a card that no check refuses
+
+unfoldable pub tickChecked : List ℕ → Header → List Float → Answered
+tickChecked card h s =
+    let fault = stateFault (h .bodies) (h .joints) s in
+    if eqb fault 0 then tickAccepted card h s else answered fault s

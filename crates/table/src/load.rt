@@ -1,0 +1,198 @@
+// What a tick reads: the state's numbers, and the card's bodies.
+ghost use mathlib.Core.Path.{_≡_};
+ghost use Prim.Native.Nat.{_+_, _*_, _≤_, _<_};
+ghost use lib.ListN.{length};
+ghost use Rattle.card.specs.Layout.{maxBodies, maxJoints, bodyNumbers, jointNumbers, bodyPlace, bodyBytes};
+ghost use Rattle.table.specs.Tick.{vec3In, quatIn, bodyStateAt, totalsPlace, totalsAt, loaded, warmStarted, preSolve};
+ghost use Rattle.table.specs.Parts.{SoundCard, SoundState, indexOf, tickBodyAt, TickBodies, moved, integratedOr};
+use card::layout::BODY_NUMBERS;
+use card::layout::JOINT_NUMBERS;
+use card::layout::MAX_BODIES;
+use card::records::Header;
+use card::records::body_bits;
+use card_records::body::center_of_mass_at;
+use card_records::body::inertia_at;
+use solver_body::RigidBody;
+use solver_body::SolverBody;
+use solver_body::SolverBodyIndex;
+use solver_body::SolverBodyInertia;
+use tick::body::BodyState;
+use tick::body::integrate;
+use tick::joint::JointTotals;
+use vector::Quat;
+use vector::Vec3;
+
+// What a tick reads of a body.
+pub struct TickBody {
+    // `INVALID` for an anchored body.
+    pub index: SolverBodyIndex,
+    pub rigid: RigidBody,
+    pub inertia: SolverBodyInertia,
+}
+
+impl TickBody {
+    pub const NONE: TickBody = TickBody {
+        index: SolverBodyIndex::INVALID,
+        rigid: RigidBody {
+            position: Vec3::ZERO,
+            rotation: Quat::IDENTITY,
+            center_of_mass: Vec3::ZERO,
+        },
+        inertia: SolverBodyInertia::DUMMY,
+    };
+}
+
+fn vec3_in(state: &[f32], at: usize) -> Vec3
+    requires { ⌜ at + 3 ≤ length (now state) ⌝ }
+    ensures { λ r. ⌜ r ≡ vec3In (now (state .entry)) at ⌝ }
+{
+    Vec3 {
+        x: state[at],
+        y: state[at + 1],
+        z: state[at + 2],
+    }
+}
+
+fn quat_in(state: &[f32], at: usize) -> Quat
+    requires { ⌜ at + 4 ≤ length (now state) ⌝ }
+    ensures { λ r. ⌜ r ≡ quatIn (now (state .entry)) at ⌝ }
+{
+    Quat {
+        x: state[at],
+        y: state[at + 1],
+        z: state[at + 2],
+        w: state[at + 3],
+    }
+}
+
+// The 13 numbers of body i.
+pub fn body_state_at(state: &[f32], i: usize) -> BodyState
+    requires { ⌜ bodyNumbers * i + bodyNumbers ≤ length (now state) ⌝ }
+    ensures { λ r. ⌜ r ≡ bodyStateAt (now (state .entry)) i ⌝ }
+{
+    let at = BODY_NUMBERS * i;
+    BodyState {
+        position: vec3_in(state, at),
+        rotation: quat_in(state, at + 3),
+        linear_velocity: vec3_in(state, at + 7),
+        angular_velocity: vec3_in(state, at + 10),
+    }
+}
+
+// The 12 numbers of joint j, behind those of the bodies.
+pub fn totals_at(state: &[f32], bodies: usize, j: usize) -> JointTotals
+    requires { ⌜ totalsPlace bodies j + jointNumbers ≤ length (now state) ⌝ }
+    ensures { λ r. ⌜ r ≡ totalsAt (now (state .entry)) bodies j ⌝ }
+{
+    let at = BODY_NUMBERS * bodies + JOINT_NUMBERS * j;
+    JointTotals {
+        first: vec3_in(state, at),
+        second: vec3_in(state, at + 3),
+        third: vec3_in(state, at + 6),
+        fourth: vec3_in(state, at + 9),
+    }
+}
+
+fn index_of(anchored: bool, i: usize) -> SolverBodyIndex
+    requires { ⌜ i < maxBodies ⌝ }
+    ensures { λ r. ⌜ r ≡ indexOf anchored i ⌝ }
+{
+    if anchored {
+        return SolverBodyIndex::INVALID;
+    }
+    SolverBodyIndex(i as u32)
+}
+
+// A body among the solver's bodies: an anchored one stays as it is.
+pub fn moved(index: SolverBodyIndex, old: SolverBody, new: SolverBody) -> SolverBody
+    ensures { λ r. ⌜ r ≡ moved index old new ⌝ }
+{
+    if index.is_valid() { new } else { old }
+}
+
+pub fn tick_body_at(card: &[u8], h: Header, state: &[f32], i: usize) -> TickBody
+    requires { ⌜ SoundCard (now card) h × SoundState h (now state) × (i < h .bodies) ⌝ }
+    ensures { λ r. ⌜ r ≡ tickBodyAt (now (card .entry)) (now (state .entry)) i ⌝ }
+{
+    let b = body_state_at(state, i);
+    let position = b.position;
+    let rotation = b.rotation;
+    TickBody {
+        index: index_of(body_bits(card, i).anchored, i),
+        rigid: RigidBody {
+            position,
+            rotation,
+            center_of_mass: center_of_mass_at(card, i),
+        },
+        inertia: inertia_at(card, i),
+    }
+}
+
+pub fn tick_bodies(card: &[u8], h: Header, state: &[f32]) -> [TickBody; MAX_BODIES]
+    requires { ⌜ SoundCard (now card) h × SoundState h (now state) ⌝ }
+    ensures { λ r. ⌜ TickBodies (now (card .entry)) (now (state .entry)) (h .bodies) r ⌝ }
+{
+    let count = h.bodies;
+    let mut table = [TickBody::NONE; MAX_BODIES];
+    let mut i = 0;
+    while i < count {
+        let b = tick_body_at(card, h, state, i);
+        table[i] = b;
+        i += 1;
+    }
+    table
+}
+
+// The solver's bodies at a tick's start, an anchored one the dummy.
+pub fn start_bodies(
+    card: &[u8],
+    h: Header,
+    state: &[f32],
+    table: [TickBody; MAX_BODIES],
+) -> [SolverBody; MAX_BODIES]
+    requires { ⌜ SoundCard (now card) h × SoundState h (now state) × TickBodies (now card) (now state) (h .bodies) table ⌝ }
+    ensures { λ r. ⌜ r ≡ loaded (now (card .entry)) h (now (state .entry)) ⌝ }
+{
+    let count = h.bodies;
+    let mut bodies = [SolverBody::DUMMY; MAX_BODIES];
+    let mut i = 0;
+    while i < count {
+        let t = table[i];
+        let b = moved(t.index, bodies[i], body_state_at(state, i).solver_body());
+        bodies[i] = b;
+        i += 1;
+    }
+    bodies
+}
+
+fn integrated_or(t: TickBody, body: SolverBody, gravity: f32, dt: f32) -> SolverBody
+    ensures { λ r. ⌜ r ≡ integratedOr t body gravity dt ⌝ }
+{
+    if t.index.is_valid() {
+        return integrate(body, t.inertia, gravity, dt);
+    }
+    body
+}
+
+// Gravity and the locks, then the deltas of the velocities.
+pub fn integrate_bodies(
+    card: &[u8],
+    h: Header,
+    state: &[f32],
+    table: [TickBody; MAX_BODIES],
+    warm_started: [SolverBody; MAX_BODIES],
+) -> [SolverBody; MAX_BODIES]
+    requires { ⌜ SoundCard (now card) h × TickBodies (now card) (now state) (h .bodies) table × («warm_started» ≡ warmStarted (now card) h (now state)) ⌝ }
+    ensures { λ r. ⌜ r ≡ preSolve (now (card .entry)) h (now (state .entry)) ⌝ }
+{
+    let count = h.bodies;
+    let dt = h.dt();
+    let mut bodies = warm_started;
+    let mut i = 0;
+    while i < count {
+        let b = integrated_or(table[i], bodies[i], h.gravity, dt);
+        bodies[i] = b;
+        i += 1;
+    }
+    bodies
+}

@@ -1,0 +1,29 @@
+// Whether numbers are finite: a vector's, a rotation's, a body's.
+ghost use mathlib.Core.Path.{_≡_};
+ghost use Rattle.tick.specs.Finite.{finite3, finite4, bodyFinite};
+use scalar::is_finite;
+use solver_body::SolverBody;
+use vector::Quat;
+use vector::Vec3;
+
+pub fn vec3_finite(v: Vec3) -> bool
+    ensures { λ r. ⌜ r ≡ finite3 v ⌝ }
+{
+    is_finite(v.x) & is_finite(v.y) & is_finite(v.z)
+}
+
+pub fn quat_finite(q: Quat) -> bool
+    ensures { λ r. ⌜ r ≡ finite4 q ⌝ }
+{
+    is_finite(q.x) & is_finite(q.y) & is_finite(q.z) & is_finite(q.w)
+}
+
+// Velocities and deltas.
+pub fn body_finite(b: SolverBody) -> bool
+    ensures { λ r. ⌜ r ≡ bodyFinite b ⌝ }
+{
+    vec3_finite(b.linear_velocity)
+        & vec3_finite(b.angular_velocity)
+        & vec3_finite(b.delta_position)
+        & quat_finite(b.delta_rotation)
+}
