@@ -1,0 +1,4 @@
+//! Stands in for the list of avian's `dynamics`.
+
+pub mod joints;
+pub mod solver;

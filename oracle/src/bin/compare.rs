@@ -1,0 +1,135 @@
+//! Compares the Rattle with the oracle: `compare [--seed S] [--count N] [leaves] [joints] [cards] [runs] [states] [every]`.
+//!
+//! Without a word it compares all but `every`, which goes through every f32 of the functions of one number. The count is of inputs to each leaf, of
+//! joints, of damaged cards, of runs and of states. At a difference it writes the smallest input that it finds to target/differences; it fails at a
+//! difference, and where a class of inputs that it looks for never came up.
+
+use oracle::compare::leaves::{any_joint, every, leaves, Leaf};
+use oracle::compare::{Difference, Hits};
+use oracle::host;
+use std::path::Path;
+use std::process::ExitCode;
+use std::time::Instant;
+
+const USUAL: &[&str] = &["leaves", "joints", "cards", "runs", "states"];
+
+struct Options {
+    seed: u64,
+    count: u64,
+    what: Vec<String>,
+}
+
+fn options() -> Option<Options> {
+    let mut options = Options {
+        seed: 1,
+        count: 20000,
+        what: Vec::new(),
+    };
+    let mut words = std::env::args().skip(1);
+    while let Some(word) = words.next() {
+        match word.as_str() {
+            "--seed" => options.seed = words.next()?.parse().ok()?,
+            "--count" => options.count = words.next()?.parse().ok()?,
+            "every" => options.what.push(word),
+            what if USUAL.contains(&what) => options.what.push(word),
+            _ => return None,
+        }
+    }
+    if options.what.is_empty() {
+        options.what = USUAL.iter().map(|what| what.to_string()).collect();
+    }
+    Some(options)
+}
+
+type Compared = Result<(), Box<Difference>>;
+
+fn compare_leaves(list: &[Leaf], options: &Options, hits: &mut Hits) -> Compared {
+    for leaf in list {
+        let begun = Instant::now();
+        let compared = leaf.compare(host::answer, options.seed, options.count, hits)?;
+        let seconds = begun.elapsed().as_secs_f32();
+        println!("{}: {compared} inputs equal ({seconds:.1} s)", leaf.name);
+    }
+    Ok(())
+}
+
+fn compare_tables(what: &str, options: &Options, hits: &mut Hits) -> Compared {
+    let tables = oracle::compare::tables::Tables {
+        oracle: oracle::compare::ORACLE,
+        rattle: host::table(),
+    };
+    let begun = Instant::now();
+    let (seed, count) = (options.seed, options.count);
+    let equal = match what {
+        "cards" => format!("{} cards", tables.cards(seed, count, hits)?),
+        "runs" => {
+            let ticks = tables.runs(seed, count, hits)?;
+            format!("{ticks} ticks of {count} runs")
+        }
+        _ => format!("{} states", tables.states(seed, count, hits)?),
+    };
+    let seconds = begun.elapsed().as_secs_f32();
+    println!("{what}: {equal} equal ({seconds:.1} s)");
+    Ok(())
+}
+
+fn compare(what: &str, options: &Options, hits: &mut Hits) -> Compared {
+    match what {
+        "leaves" => compare_leaves(&leaves(), options, hits),
+        "joints" => compare_leaves(&any_joint(), options, hits),
+        "every" => {
+            for scan in every() {
+                let begun = Instant::now();
+                let compared = scan.compare(host::answer)?;
+                let seconds = begun.elapsed().as_secs_f32();
+                println!(
+                    "{}: all {compared} inputs equal ({seconds:.1} s)",
+                    scan.name
+                );
+            }
+            Ok(())
+        }
+        _ => compare_tables(what, options, hits),
+    }
+}
+
+fn report(difference: &Difference) {
+    print!("DIFFERENCE in {}", difference.text);
+    let folder = Path::new(env!("CARGO_MANIFEST_DIR")).join("target/differences");
+    std::fs::create_dir_all(&folder).expect("the folder can be made");
+    for (name, bytes) in &difference.files {
+        let path = folder.join(name);
+        std::fs::write(&path, bytes).expect("the file can be written");
+        println!("  written to {}", path.display());
+    }
+}
+
+fn main() -> ExitCode {
+    let Some(options) = options() else {
+        let words = USUAL.join("] [");
+        eprintln!("usage: compare [--seed S] [--count N] [{words}] [every]");
+        return ExitCode::from(2);
+    };
+    println!("seed {}, count {}", options.seed, options.count);
+    let mut equal = true;
+    for what in &options.what {
+        let mut hits = Hits::default();
+        match compare(what, &options, &mut hits) {
+            Ok(()) => {
+                print!("{what}: classes\n{}", hits.lines());
+                for class in hits.missed() {
+                    println!("{what}: nothing reached `{class}`");
+                    equal = false;
+                }
+            }
+            Err(difference) => {
+                report(&difference);
+                equal = false;
+            }
+        }
+    }
+    match equal {
+        true => ExitCode::SUCCESS,
+        false => ExitCode::FAILURE,
+    }
+}

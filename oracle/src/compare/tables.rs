@@ -1,0 +1,414 @@
+//! Cards, runs and states: both tables' check, start, tick and run on the same bytes and numbers.
+
+use super::{all_same, in_hex, number_bytes, shrink, Difference, Hits, Table};
+use crate::card::{self, Card, BODY_NUMBERS, JOINT_NUMBERS};
+use crate::generate::{self, Random};
+use crate::table;
+
+/// The longest that random bytes get: a little over the largest card.
+const LONGEST: usize = 7000;
+
+/// A number that no start state has, to see what is written.
+const MARK: f32 = -12345.678;
+
+#[derive(Clone, Copy, Debug)]
+enum Call {
+    Check,
+    Start,
+    Tick,
+    Run(u32),
+}
+
+/// The answer of a call, and the state after it.
+fn answer(table: &Table, call: Call, card: &[u8], state: &[f32]) -> (u32, Vec<f32>) {
+    let mut state = state.to_vec();
+    let number = match call {
+        Call::Check => (table.check)(card),
+        Call::Start => (table.start)(card, &mut state),
+        Call::Tick => (table.tick)(card, &mut state),
+        Call::Run(ticks) => (table.run)(card, &mut state, ticks),
+    };
+    (number, state)
+}
+
+pub struct Tables {
+    pub oracle: Table,
+    pub rattle: Table,
+}
+
+impl Tables {
+    fn differs(&self, call: Call, card: &[u8], state: &[f32]) -> bool {
+        let (number, after) = answer(&self.oracle, call, card, state);
+        let (other_number, other_after) = answer(&self.rattle, call, card, state);
+        number != other_number || !all_same(&after, &other_after)
+    }
+
+    /// The oracle's answer, or the difference.
+    fn both(
+        &self,
+        call: Call,
+        card: &[u8],
+        state: &[f32],
+    ) -> Result<(u32, Vec<f32>), Box<Difference>> {
+        match self.differs(call, card, state) {
+            true => Err(Box::new(self.difference(call, card, state))),
+            false => Ok(answer(&self.oracle, call, card, state)),
+        }
+    }
+
+    fn difference(&self, call: Call, bytes: &[u8], state: &[f32]) -> Difference {
+        let (call, bytes, state) = self.smallest(call, bytes.to_vec(), state.to_vec());
+        let (number, after) = answer(&self.oracle, call, &bytes, &state);
+        let (other_number, other_after) = answer(&self.rattle, call, &bytes, &state);
+        let card = match card::check(&bytes) {
+            Ok(card) => format!("{card:#?}"),
+            Err(refusal) => format!("refused {refusal}"),
+        };
+        let text = format!(
+            "{call:?} on a card of {} bytes and a state of {} numbers\n  oracle: {number}, rattle: {other_number}\n  before: {}\n  oracle: {}\n  rattle: {}\n{card}\n",
+            bytes.len(),
+            state.len(),
+            in_hex(&state),
+            in_hex(&after),
+            in_hex(&other_after),
+        );
+        Difference {
+            files: vec![
+                ("table.card".into(), bytes),
+                ("table.state".into(), number_bytes(&state)),
+                ("table.txt".into(), text.clone().into_bytes()),
+            ],
+            text,
+        }
+    }
+
+    fn smallest(
+        &self,
+        call: Call,
+        bytes: Vec<u8>,
+        mut state: Vec<f32>,
+    ) -> (Call, Vec<u8>, Vec<f32>) {
+        // A run that differs in its first tick is that tick.
+        if let Call::Run(_) = call {
+            if self.differs(Call::Tick, &bytes, &state) {
+                return self.smallest(Call::Tick, bytes, state);
+            }
+        }
+        let Ok(card) = card::check(&bytes) else {
+            let bytes = shrink::bytes(bytes, |bytes| self.differs(call, bytes, &state));
+            return (call, bytes, state);
+        };
+        // From the start state where that differs too.
+        let start = table::start_state(&card);
+        if self.differs(call, &bytes, &start) {
+            state = start;
+        }
+        let (card, state) = shrink::card_and_state(card, state, |card, state| {
+            let bytes = card.encode();
+            card::check(&bytes).is_ok() && self.differs(call, &bytes, state)
+        });
+        (call, card.encode(), state)
+    }
+
+    // ------------------------------------------------------------------------------------------------------------------------------ cards
+
+    /// Check and start on one card.
+    fn card(&self, bytes: &[u8], hits: &mut Hits) -> Result<u32, Box<Difference>> {
+        let (number, _) = self.both(Call::Check, bytes, &[])?;
+        for refusal in 0..=10 {
+            hits.look(format!("check answers {refusal}"), refusal == number);
+        }
+        // The length that the counts give, whether the card is refused or not, and others.
+        let word = bytes.get(..4).map_or(0, |four| {
+            u32::from_be_bytes(four.try_into().expect("four bytes"))
+        });
+        let (bodies, joints) = ((word >> 18 & 63) as usize, (word >> 12 & 63) as usize);
+        let length = BODY_NUMBERS * bodies + JOINT_NUMBERS * joints;
+        let lengths = match number {
+            0 => vec![length, length - 1, length + 1, 0],
+            _ => vec![length],
+        };
+        for length in lengths {
+            let (number, after) = self.both(Call::Start, bytes, &vec![MARK; length])?;
+            hits.look("start answers 11", number == 11);
+            let written = !after.contains(&MARK) && number == 0;
+            hits.look("start writes a state", written);
+        }
+        Ok(number)
+    }
+
+    /// Bits flipped, floats and lengths at borders, random bytes, damage of one and two kinds, and valid cards.
+    pub fn cards(&self, seed: u64, count: u64, hits: &mut Hits) -> Result<u64, Box<Difference>> {
+        let mut compared = 0;
+        for card in generate::each_kind() {
+            let bytes = card.encode();
+            for flipped in generate::flipped(&bytes) {
+                self.card(&flipped, hits)?;
+                compared += 1;
+            }
+            for edited in generate::floats_at_borders(&bytes, 2, 1) {
+                self.card(&edited, hits)?;
+                compared += 1;
+            }
+        }
+        for bytes in generate::at_borders() {
+            self.card(&bytes, hits)?;
+            compared += 1;
+        }
+        for length in 0..=LONGEST {
+            let bytes = generate::random_bytes(&mut Random::of_case(seed, length as u64), length);
+            self.card(&bytes, hits)?;
+            compared += 1;
+        }
+        // Two refusals apply: the second alone first, and then with the first, which wins.
+        for first in 1..=10 {
+            for second in first + 1..=10 {
+                for case in 0..30 {
+                    let random = &mut Random::of_case(seed + (100 * first + second) as u64, case);
+                    let mut bytes = generate::card(random).encode();
+                    generate::damage(random, &mut bytes, second);
+                    let alone = self.card(&bytes, hits)?;
+                    generate::damage(random, &mut bytes, first);
+                    let both = self.card(&bytes, hits)?;
+                    hits.look(
+                        format!("refusal {first} before {second}"),
+                        alone == second && both == first,
+                    );
+                    compared += 2;
+                }
+            }
+        }
+        for case in 0..count {
+            let random = &mut Random::of_case(seed, case);
+            let bytes = match random.one_in(4) {
+                true => generate::card(random).encode(),
+                false => generate::damaged_card(random),
+            };
+            self.card(&bytes, hits)?;
+            compared += 1;
+        }
+        Ok(compared)
+    }
+
+    // ------------------------------------------------------------------------------------------------------------------------------- runs
+
+    /// Ticks from the start state one by one, and the same ticks by one run.
+    fn run(&self, card: &Card, ticks: u32, hits: &mut Hits) -> Result<u64, Box<Difference>> {
+        let bytes = card.encode();
+        let start = self.both(Call::Start, &bytes, &vec![MARK; card.state_length()])?;
+        assert_eq!(start.0, 0, "a run begins with a card that is accepted");
+        let mut state = start.1.clone();
+        let mut ran = 0;
+        for _ in 0..ticks {
+            let (number, after) = self.both(Call::Tick, &bytes, &state)?;
+            hits.look("run: tick answers 13", number == 13);
+            if number != 0 {
+                break;
+            }
+            state = after;
+            ran += 1;
+            note_state(card, &state, hits);
+        }
+        hits.look("run of 300 ticks", ran >= 300);
+        let closed = card.joints.len() >= card.bodies.len() && card.bodies.len() > 2;
+        hits.look("run of 300 ticks of a closed loop", ran >= 300 && closed);
+        hits.look(
+            "run of 300 ticks of 32 bodies",
+            ran >= 300 && card.bodies.len() == 32,
+        );
+        self.both(Call::Run(ticks), &bytes, &start.1)?;
+        self.both(Call::Run(0), &bytes, &start.1)?;
+        Ok(ran)
+    }
+
+    /// Linkages over hundreds of ticks, and other cards over some.
+    pub fn runs(&self, seed: u64, count: u64, hits: &mut Hits) -> Result<u64, Box<Difference>> {
+        let mut ticks = 0;
+        for case in 0..count {
+            let random = &mut Random::of_case(seed, case);
+            ticks += match random.below(20) {
+                0 => self.run(&generate::linkage(random), 300, hits)?,
+                1 => self.run(&generate::coincident(random), 20, hits)?,
+                2 | 3 => self.run(&generate::any_card(random), 5, hits)?,
+                _ => self.run(&generate::pair(random), 20, hits)?,
+            };
+        }
+        Ok(ticks)
+    }
+
+    // ----------------------------------------------------------------------------------------------------------------------------- states
+
+    /// Ticks and runs from states that no run may have left, of right and wrong lengths.
+    pub fn states(&self, seed: u64, count: u64, hits: &mut Hits) -> Result<u64, Box<Difference>> {
+        for case in 0..count {
+            let random = &mut Random::of_case(seed, case);
+            let card = generate::card(random);
+            let state = generate::state(random, &card);
+            let mut bytes = card.encode();
+            if random.one_in(50) {
+                let number = 1 + random.below(10) as u32;
+                generate::damage(random, &mut bytes, number);
+            }
+            let (number, after) = self.both(Call::Tick, &bytes, &state)?;
+            for refusal in [0, 11, 12, 13] {
+                hits.look(format!("state: tick answers {refusal}"), refusal == number);
+            }
+            hits.look("state: a card is refused", (1..=10).contains(&number));
+            hits.look(
+                "state with subnormals is accepted",
+                number == 0 && state.iter().any(|x| x.is_subnormal()),
+            );
+            hits.look(
+                "state with numbers over 4,096 is accepted",
+                number == 0 && state.iter().any(|x| x.abs() > 4096.0),
+            );
+            if number == 0 {
+                note_state(&card, &after, hits);
+            }
+            let ticks = random.below(4) as u32;
+            let (number, _) = self.both(Call::Run(ticks), &bytes, &state)?;
+            hits.look("state: run of none is accepted", ticks == 0 && number == 0);
+            self.both(Call::Start, &bytes, &state)?;
+        }
+        Ok(count)
+    }
+}
+
+const KINDS: [&str; 5] = ["fixed", "hinge", "slide", "ball", "tether"];
+
+/// Which totals a tick left: limits that were hit, motors that pushed.
+fn note_state(card: &Card, state: &[f32], hits: &mut Hits) {
+    let totals = &state[BODY_NUMBERS * card.bodies.len()..];
+    for (joint, totals) in card.joints.iter().zip(totals.chunks(JOINT_NUMBERS)) {
+        let kind = KINDS[joint.kind as usize];
+        let used = |place: usize| totals[3 * place..3 * place + 3].iter().any(|x| *x != 0.0);
+        for name in KINDS {
+            hits.look(format!("tick with a {name}"), name == kind);
+        }
+        match joint.kind {
+            card::HINGE => {
+                hits.look("tick with a hinge limit hit", used(2));
+                hits.look("tick with a hinge limit not hit", joint.limit1 && !used(2));
+            }
+            card::BALL => {
+                hits.look("tick with a swing limit hit", used(1));
+                hits.look("tick with a swing limit not hit", joint.limit1 && !used(1));
+                hits.look("tick with a twist limit hit", used(2));
+                hits.look("tick with a twist limit not hit", joint.limit2 && !used(2));
+            }
+            _ => hits.look(format!("tick with a {kind} at rest"), !used(0)),
+        }
+        if let (Some(place), motor @ 1..) = (joint.motor_total(), joint.motor) {
+            hits.look(format!("tick with a {kind} motor {motor}"), used(place));
+            hits.look(format!("tick with a {kind} motor idle"), !used(place));
+        }
+    }
+    hits.look(
+        "tick with a locked body",
+        card.bodies.iter().any(|body| body.locks != [false; 3]),
+    );
+    hits.look(
+        "tick with an anchored body",
+        card.bodies.iter().any(|body| body.anchored),
+    );
+    hits.look(
+        "tick with a dominant body",
+        card.joints.iter().any(|joint| {
+            let [body1, body2] = [joint.body1, joint.body2].map(|i| &card.bodies[i as usize]);
+            !body1.anchored && !body2.anchored && body1.dominance != body2.dominance
+        }),
+    );
+}
+
+#[cfg(test)]
+mod tests {
+    use super::super::ORACLE;
+    use super::*;
+
+    fn against(rattle: Table) -> Tables {
+        Tables {
+            oracle: ORACLE,
+            rattle,
+        }
+    }
+
+    #[test]
+    fn every_class_comes_up() {
+        let tables = against(ORACLE);
+        let mut hits = Hits::default();
+        tables.cards(1, 2000, &mut hits).unwrap();
+        assert_eq!(hits.missed(), [""; 0], "{}", hits.lines());
+        let mut hits = Hits::default();
+        tables.runs(1, 1000, &mut hits).unwrap();
+        assert_eq!(hits.missed(), [""; 0], "{}", hits.lines());
+        let mut hits = Hits::default();
+        tables.states(1, 4000, &mut hits).unwrap();
+        assert_eq!(hits.missed(), [""; 0], "{}", hits.lines());
+    }
+
+    fn found(rattle: Table) -> String {
+        let tables = against(rattle);
+        let hits = &mut Hits::default();
+        let found = tables
+            .cards(1, 200, hits)
+            .and_then(|_| tables.runs(1, 200, hits))
+            .and_then(|_| tables.states(1, 1000, hits));
+        found.expect_err("it is wrong").text
+    }
+
+    #[test]
+    fn wrong_tables_are_found() {
+        // Refuses each card.
+        found(Table {
+            check: |_| 1,
+            ..ORACLE
+        });
+        // Takes a rate of 15.
+        let text = found(Table {
+            check: |card| match (ORACLE.check)(card) {
+                4 if card[2] & 15 == 0 && card[3] == 15 << 2 => 0,
+                number => number,
+            },
+            ..ORACLE
+        });
+        assert!(text.contains("oracle: 4, rattle: 0"), "{text}");
+        // Answers 13 before solving.
+        found(Table {
+            tick: |_, _| 13,
+            ..ORACLE
+        });
+        // Makes the first tick only.
+        found(Table {
+            run: |card, state, ticks| (ORACLE.run)(card, state, ticks.min(1)),
+            ..ORACLE
+        });
+        // A still linkage.
+        found(Table {
+            tick: |card, state| (ORACLE.tick)(card, &mut state.to_vec()),
+            ..ORACLE
+        });
+        // Writes the state though the tick is refused.
+        found(Table {
+            tick: |card, state| {
+                let number = (ORACLE.tick)(card, state);
+                if number == 13 {
+                    state[0] = 0.5;
+                }
+                number
+            },
+            ..ORACLE
+        });
+        // The last total is off by its lowest bit.
+        let text = found(Table {
+            tick: |card, state| {
+                let number = (ORACLE.tick)(card, state);
+                if let (0, Some(last)) = (number, state.last_mut()) {
+                    *last = f32::from_bits(last.to_bits() ^ 1);
+                }
+                number
+            },
+            ..ORACLE
+        });
+        assert!(text.contains("a state of 13 numbers"), "{text}");
+    }
+}
