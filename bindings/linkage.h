@@ -1,0 +1,24 @@
+/* The linkage table's calls for C: link target/staticlib/libhost.a, which `rt staticlib host` makes, and -lm.
+ *
+ * A card is any bytes. A state has 13 floats for each of the card's bodies (position, rotation x y z w, linear and angular velocity) and then 12 for each
+ * of its joints; another length is refused by 11. Each call answers 0, or the number of document 01's refusal, and then the state is as it was.
+ */
+#ifndef LINKAGE_H
+#define LINKAGE_H
+
+#include <stddef.h>
+#include <stdint.h>
+
+/* Refusals 1 to 10 of a card. */
+uint32_t linkage_check(const uint8_t *card, size_t card_bytes);
+
+/* The start state of a card. */
+uint32_t linkage_start(const uint8_t *card, size_t card_bytes, float *state, size_t state_numbers);
+
+/* One tick. */
+uint32_t linkage_tick(const uint8_t *card, size_t card_bytes, float *state, size_t state_numbers);
+
+/* Ticks in a row, up to the first that is refused; card and state are checked even for none. */
+uint32_t linkage_run(const uint8_t *card, size_t card_bytes, float *state, size_t state_numbers, uint32_t ticks);
+
+#endif
