@@ -96,11 +96,9 @@ fn meet(a: Point, ra: f64, b: Point, rb: f64) -> Point {
     ]
 }
 
-/// A crank of 1, a coupler of 3.5 and a rocker of 2.5 on pivots 4 apart.
-fn four_bar() -> Card {
-    let (o, q, a) = ([0.0, 0.0], [4.0, 0.0], [0.0, 1.0]);
-    let b = meet(a, 3.5, q, 2.5);
-    let bodies = vec![frame(), bar(o, a), bar(a, b), bar(q, b)];
+/// On the pivots o and q: a driven crank from o to a, a coupler from a by way of b to its end, and a rocker from q to b.
+fn crank_rocker(o: Point, q: Point, a: Point, b: Point, end: Point) -> Card {
+    let bodies = vec![frame(), bar(o, a), bar(a, end), bar(q, b)];
     let joints = vec![
         driven(at(HINGE, &bodies, 0, 1, o), 2.0, 500.0),
         at(HINGE, &bodies, 1, 2, a),
@@ -108,6 +106,13 @@ fn four_bar() -> Card {
         at(HINGE, &bodies, 0, 3, q),
     ];
     card(0.0, bodies, joints)
+}
+
+/// A crank of 1, a coupler of 3.5 and a rocker of 2.5 on pivots 4 apart.
+fn four_bar() -> Card {
+    let (o, q, a) = ([0.0, 0.0], [4.0, 0.0], [0.0, 1.0]);
+    let b = meet(a, 3.5, q, 2.5);
+    crank_rocker(o, q, a, b, b)
 }
 
 /// A crank of 1 and a rod of 3, which moves a block along x.
@@ -155,14 +160,7 @@ fn chebyshev() -> Card {
     let (o, q, a) = ([0.0, 0.0], [2.0, 0.0], [1.0, 0.0]);
     let b = meet(a, 2.5, q, 2.5);
     let end = [2.0 * b[0] - a[0], 2.0 * b[1] - a[1]];
-    let bodies = vec![frame(), bar(o, a), bar(a, end), bar(q, b)];
-    let joints = vec![
-        driven(at(HINGE, &bodies, 0, 1, o), 2.0, 500.0),
-        at(HINGE, &bodies, 1, 2, a),
-        at(HINGE, &bodies, 2, 3, b),
-        at(HINGE, &bodies, 0, 3, q),
-    ];
-    card(0.0, bodies, joints)
+    crank_rocker(o, q, a, b, end)
 }
 
 /// A bob on a string that is slack below 2 and can't come nearer than 0.5.
