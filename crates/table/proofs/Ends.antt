@@ -1,10 +1,9 @@
 -- The new numbers of the bodies, from the arrays.
 use Prim.Native.Nat.{ℕ, _+_, _*_, _≤_, _<_}
-use native.Mathlib.Omega.{arith}
-use mathlib.Core.Path.{_≡_, refl, sym, ap, subst, _∙_}
-use mathlib.Core.Bool.{Bool, true, false, not, _&&_}
+use mathlib.Core.Path.{_≡_, sym, ap, subst, _∙_}
+use mathlib.Core.Bool.{Bool, true, false}
 use mathlib.Core.List.{List, _++_}
-use lib.ListN.{length, getD, set, replicate, length-replicate}
+use lib.ListN.{length, getD, replicate, length-replicate}
 use lib.Seq.{sets}
 use lib.Dec.{T}
 use lib.Ieee.{Float}
@@ -23,7 +22,6 @@ use Rattle.table.specs.Loop.{after}
 use Rattle.table.specs.Tick.{bodyStateNumbers, totalsPlace, totalsNumbers, storeTotals}
 use Rattle.table.specs.Parts.{noTickBody, isValid, finishedOr, finishedAt, NewBodiesOf, storeNew}
 use Rattle.table.specs.declared.load.TickBody.{TickBody}
-use Rattle.table.specs.declared.store.NewBodies.{NewBodies}
 use Rattle.table.proofs.Loops.{getD-in, after-done, fill, fill-length, fill-at}
 use Rattle.table.proofs.Turns.{unreadBody, unreadTickBody, unreadState, unreadTotals}
 

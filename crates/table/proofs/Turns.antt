@@ -18,7 +18,6 @@ use Rattle.joints.specs.declared.Joint.the-variants.{Fixed, Revolute, Prismatic
 use Rattle.solver_body.specs.declared.RigidBody.{RigidBody}
 use Rattle.solver_body.specs.declared.SolverBodyInertia.{SolverBodyInertia}
 use Rattle.solver_body.specs.declared.SolverBody.{SolverBody}
-use Rattle.solver_body.specs.declared.SolverBodyIndex.{SolverBodyIndex}
 use Rattle.solver_body.specs.declared.BodyPair.{BodyPair}
 use Rattle.xpbd_joints.specs.Revolute.{revoluteWarmStarted}
 use Rattle.xpbd_joints.specs.Prismatic.{prismaticWarmStarted}

@@ -1,6 +1,6 @@
 -- What the parts of a tick ask for and hand to each other, for their own contracts: Tick.antt needs none of it.
-use Prim.Native.Nat.{ℕ, _+_, _*_, _≤_, _<_}
-use mathlib.Core.Bool.{Bool, true, false, not}
+use Prim.Native.Nat.{ℕ, _*_, _≤_, _<_}
+use mathlib.Core.Bool.{Bool, false, not}
 use mathlib.Core.Path.{_≡_}
 use mathlib.Core.List.{List}
 use lib.ListN.{length, getD}
@@ -17,7 +17,6 @@ use Rattle.solver_body.specs.declared.SolverBodyIndex.{SolverBodyIndex}
 use Rattle.solver_body.specs.declared.BodyPair.{BodyPair}
 use Rattle.xpbd_plugin.specs.Plugin.{dominatedOf}
 use Rattle.xpbd_plugin.specs.Joint.{jointPrepared, jointWarmStarted, jointSolved}
-use Rattle.xpbd_plugin.specs.declared.InertiaPair.{InertiaPair}
 use Rattle.xpbd_plugin.specs.declared.PreparedJoint.{PreparedJoint}
 use Rattle.tick.specs.Body.{integrated, restingBody, finishedBody, bodyFault}
 use Rattle.tick.specs.Joint.{warmValue, resultOf}

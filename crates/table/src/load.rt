@@ -2,7 +2,7 @@
 ghost use mathlib.Core.Path.{_≡_};
 ghost use Prim.Native.Nat.{_+_, _*_, _≤_, _<_};
 ghost use lib.ListN.{length};
-ghost use Rattle.card.specs.Layout.{maxBodies, maxJoints, bodyNumbers, jointNumbers, bodyPlace, bodyBytes};
+ghost use Rattle.card.specs.Layout.{maxBodies, bodyNumbers, jointNumbers};
 ghost use Rattle.table.specs.Tick.{vec3In, quatIn, bodyStateAt, totalsPlace, totalsAt, loaded, warmStarted, preSolve};
 ghost use Rattle.table.specs.Parts.{SoundCard, SoundState, indexOf, tickBodyAt, TickBodies, moved, integratedOr};
 use card::layout::BODY_NUMBERS;

@@ -1,7 +1,6 @@
 // Ticks: one, and several in a row.
 ghost use mathlib.Core.Path.{_≡_};
-ghost use Prim.Native.Nat.{_+_, _*_, _≤_, _<_};
-ghost use lib.ListN.{length};
+ghost use Prim.Native.Nat.{_<_};
 ghost use Rattle.card.specs.Answer.{numberOf};
 ghost use Rattle.card_records.specs.State.{answered};
 ghost use Rattle.table.specs.Tick.{tickAccepted};

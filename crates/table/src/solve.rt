@@ -1,7 +1,6 @@
 // The joints of a card, in its order: their warm start, then their solve.
 ghost use mathlib.Core.Path.{_≡_};
-ghost use Prim.Native.Nat.{_+_, _*_, _≤_, _<_};
-ghost use lib.ListN.{length};
+ghost use Prim.Native.Nat.{_<_};
 ghost use Rattle.table.specs.Tick.{knownJoint, loaded, warmStarted, preSolve, before};
 ghost use Rattle.table.specs.Parts.{SoundCard, SoundState, TickBodies, preparedWith, warmStartedWith, solvedWith};
 use crate::load::TickBody;

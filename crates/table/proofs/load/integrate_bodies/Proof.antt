@@ -1,4 +1,4 @@
-use Prim.Native.Nat.{_-_, _≤_}
+use Prim.Native.Nat.{_-_, _≤_, _<_}
 use native.Mathlib.Omega.{arith}
 use mathlib.Core.Path.{_≡_, sym, ap, _∙_}
 use lib.ListN.{length, length-set}
@@ -16,6 +16,10 @@ Inv-loop card h state table count dt bodies₀ i₀ bodies i =
 
 abbrev μ-loop : tie.MeasureT-loop
 μ-loop card h state table count dt bodies₀ i₀ bodies i = count - i
+
+-- a turn's body has its place
+inside : (c : tie.In-loop Inv-loop μ-loop) → c .before .loop .i < maxBodies
+inside c = omega (arith, c .loop-test .taken, c .before .before .before .before .before .pre .0 .few-bodies)
 
 loop-holds : tie.Need-loop-holds Inv-loop μ-loop
 loop-holds c =
@@ -37,4 +41,11 @@ unfolding preSolve
 returns c = let l = c .before .loop in after-done _ _ (l .inv .2) (l .inv .0) (c .loop-test .left)
 
 pub integrate-bodies-spec : {M : Type 1} → statement M
-integrate-bodies-spec = tie.close (tie.spec Inv-loop μ-loop (λ c κs. c .before .before .pre .0 .most-rate) loop-holds (λ c. omega (arith, c .loop-test .taken, c .before .loop .inv .0, c .before .before .before .before .before .pre .0 .few-bodies)) (λ c. omega (arith, c .loop-test .taken, c .before .loop .inv .0, c .before .before .before .before .before .pre .0 .few-bodies)) (λ c. omega (arith, c .before .loop-test .taken, c .before .before .loop .inv .0, c .before .before .before .before .before .before .pre .0 .few-bodies)) (λ c. omega (arith, c .before .loop-test .taken, c .before .before .loop .inv .0, c .before .before .before .before .before .before .pre .0 .few-bodies)) (λ _ _. tt) (λ c. omega (arith, c .before .before .before .loop-test .taken, c .before .before .before .before .loop .inv .0, c .before .before .before .before .before .before .before .before .pre .0 .few-bodies)) (λ c. omega (arith, c .before .before .before .loop-test .taken, c .before .before .before .before .loop .inv .0, c .before .before .before .before .before .before .before .before .pre .0 .few-bodies)) (λ c. omega (arith, c .before .before .before .loop-test .taken, c .before .before .before .before .loop .inv .0, c .before .before .before .before .before .before .before .before .pre .0 .few-bodies)) (λ c. omega (arith, c .before .before .before .loop-test .taken, c .before .before .before .before .loop .inv .0, c .before .before .before .before .before .before .before .before .pre .0 .few-bodies)) loop-again returns)
+integrate-bodies-spec =
+    tie.close
+    (tie.spec Inv-loop μ-loop
+    (λ c κs. c .before .before .pre .0 .most-rate) loop-holds (λ c. omega (arith, inside c))
+    (λ c. omega (arith, inside c)) (λ c. omega (arith, inside (c .before))) (λ c. omega (arith, inside (c .before)))
+    (λ _ _. tt) (λ c. omega (arith, inside (c .before .before .before)))
+    (λ c. omega (arith, inside (c .before .before .before))) (λ c. omega (arith, inside (c .before .before .before)))
+    (λ c. omega (arith, c .before .before .before .loop-test .taken)) loop-again returns)

@@ -1,4 +1,4 @@
-use Prim.Native.Nat.{_-_, _≤_}
+use Prim.Native.Nat.{_-_, _≤_, _<_}
 use native.Mathlib.Omega.{arith}
 use mathlib.Core.Path.{_≡_, sym, ap, _∙_}
 use lib.ListN.{length, getD, replicate, length-replicate}
@@ -14,6 +14,10 @@ Inv-loop card h state count table₀ i₀ table i = (i ≤ count) × (table ≡ 
 
 abbrev μ-loop : tie.MeasureT-loop
 μ-loop card h state count table₀ i₀ table i = count - i
+
+-- a turn's body has its place
+inside : (c : tie.In-loop Inv-loop μ-loop) → c .before .loop .i < maxBodies
+inside c = omega (arith, c .loop-test .taken, c .before .before .before .before .pre .0 .few-bodies)
 
 loop-holds : tie.Need-loop-holds Inv-loop μ-loop
 loop-holds c = (omega arith, sym (after-none _ _))
@@ -35,4 +39,10 @@ returns c =
     }
 
 pub tick-bodies-spec : {M : Type 1} → statement M
-tick-bodies-spec = tie.close (tie.spec Inv-loop μ-loop loop-holds (λ c κs. (c .before .before .before .before .pre .0, c .before .before .before .before .pre .1, c .loop-test .taken)) (λ c. omega (arith, c .before .loop-test .taken, c .before .before .loop .inv .0, c .before .before .before .before .before .pre .0 .few-bodies)) (λ c. omega (arith, c .before .loop-test .taken, c .before .before .loop .inv .0, c .before .before .before .before .before .pre .0 .few-bodies)) (λ c. omega (arith, c .before .loop-test .taken, c .before .before .loop .inv .0, c .before .before .before .before .before .pre .0 .few-bodies)) (λ c. omega (arith, c .before .loop-test .taken, c .before .before .loop .inv .0, c .before .before .before .before .before .pre .0 .few-bodies)) loop-again returns)
+tick-bodies-spec =
+    tie.close
+    (tie.spec Inv-loop μ-loop
+    loop-holds
+    (λ c κs. (c .before .before .before .before .pre .0, c .before .before .before .before .pre .1, c .loop-test .taken))
+    (λ c. omega (arith, inside (c .before))) (λ c. omega (arith, inside (c .before)))
+    (λ c. omega (arith, inside (c .before))) (λ c. omega (arith, c .before .loop-test .taken)) loop-again returns)

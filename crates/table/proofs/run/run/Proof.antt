@@ -3,7 +3,6 @@ use native.Mathlib.Omega.{arith}
 use borrow.Author.Needs.{needs}
 use mathlib.Core.Path.{_≡_, refl, sym, _∙_}
 use lib.ListN.{length}
-use Rattle.card.specs.Records.{headerAt}
 use Rattle.card.specs.Checks.{checkOf}
 use Rattle.card_records.specs.State.{answered}
 use Rattle.card.proofs.Accepted.{accepted}
@@ -60,4 +59,11 @@ returns-3 : tie.Need-returns-3 Inv-loop μ-loop
 returns-3 c = let l = c .before .loop in run-done _ _ (l .inv .2) (l .inv .0) (c .loop-test .left)
 
 pub run-spec : {M : Type 1} → statement M
-run-spec = tie.close (tie.spec Inv-loop μ-loop (λ c κs. search needs) (λ c κs. search needs) (λ c. search needs) returns header-at-requires loop-holds tick-checked-requires (λ c κs. search needs) same-length-2 returns-2 (λ c. omega (arith, c .before .before .before .before .before .before .loop-test .taken, c .before .before .before .before .before .before .before .loop .inv .0)) (λ c. omega (arith, c .before .before .before .before .before .before .loop-test .taken, c .before .before .before .before .before .before .before .loop .inv .0)) loop-again same-length-3 returns-3)
+run-spec =
+    tie.close
+    (tie.spec Inv-loop μ-loop
+    (λ c κs. search needs) (λ c κs. search needs) (λ c. search needs) returns header-at-requires loop-holds
+    tick-checked-requires (λ c κs. search needs) same-length-2 returns-2
+    (λ c. omega (arith, c .before .before .before .before .before .before .loop-test .taken, c .before .before .before .before .before .before .before .loop .inv .0))
+    (λ c. omega (arith, c .before .before .before .before .before .before .loop-test .taken, c .before .before .before .before .before .before .before .loop .inv .0))
+    loop-again same-length-3 returns-3)

@@ -20,4 +20,9 @@ returns-2 : tie.Need-returns-2
 returns-2 c = tick-refused _ _ _ (c .before .before .check .ensures) (λ z. c .if1 .left (c .before .number .ensures ∙ z))
 
 pub tick-spec : {M : Type 1} → statement M
-tick-spec = tie.close (tie.spec (λ c κs. search needs) (λ c κs. search needs) (λ c κs. omega (arith, accepted _ (sym (c .before .before .check .ensures) ∙ sym (c .before .number .ensures) ∙ c .if1 .taken))) tick-checked-requires (λ c. search needs) returns returns-2)
+tick-spec =
+    tie.close
+    (tie.spec
+    (λ c κs. search needs) (λ c κs. search needs)
+    (λ c κs. omega (arith, accepted _ (sym (c .before .before .check .ensures) ∙ sym (c .before .number .ensures) ∙ c .if1 .taken)))
+    tick-checked-requires (λ c. search needs) returns returns-2)

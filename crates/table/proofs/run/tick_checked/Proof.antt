@@ -19,4 +19,8 @@ returns-2 : tie.Need-returns-2
 returns-2 c = checked-refused _ _ (c .before .before .before .before .before .before .args .h) _ (c .before .before .state-answer .ensures) (λ z. c .if1 .left (c .before .number .ensures ∙ z))
 
 pub tick-checked-spec : {M : Type 1} → statement M
-tick-checked-spec = tie.close (tie.spec (λ c κs. (c .before .before .before .pre .few-bodies, c .before .before .before .pre .few-joints)) (λ c κs. search needs) tick-accepted-requires (λ c. search needs) returns (λ c. search needs) returns-2)
+tick-checked-spec =
+    tie.close
+    (tie.spec
+    (λ c κs. (c .before .before .before .pre .few-bodies, c .before .before .before .pre .few-joints))
+    (λ c κs. search needs) tick-accepted-requires (λ c. search needs) returns (λ c. search needs) returns-2)

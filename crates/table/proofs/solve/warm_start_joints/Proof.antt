@@ -1,8 +1,8 @@
-use Prim.Native.Nat.{_-_, _≤_}
+use Prim.Native.Nat.{_-_, _≤_, _<_}
 use native.Mathlib.Omega.{arith}
 use mathlib.Core.Path.{_≡_, sym, ap, _∙_}
 use lib.ListN.{length, length-set}
-use Rattle.card.specs.Layout.{maxBodies}
+use Rattle.card.specs.Layout.{maxBodies, maxJoints}
 use Rattle.table.specs.Loop.{after}
 use Rattle.table.specs.Tick.{loaded, warmStartNext, warmStarted}
 use Rattle.table.proofs.Loops.{after-none, after-turn, after-done}
@@ -17,6 +17,16 @@ Inv-loop card h state table count joints bodies₀ j₀ bodies j =
 abbrev μ-loop : tie.MeasureT-loop
 μ-loop card h state table count joints bodies₀ j₀ bodies j = joints - j
 
+abbrev start : tie.In-loop Inv-loop μ-loop → tie.Start Inv-loop μ-loop
+start k = k .before .before .before .before
+
+inside : (c : tie.In-loop Inv-loop μ-loop) → c .before .loop .j < maxJoints
+inside c = omega (arith, c .loop-test .taken, start c .pre .0 .few-joints)
+
+-- a turn's two bodies have their places
+places : (c : tie.After-joint-bits Inv-loop μ-loop) → (c .joint-bits .result .body1 < maxBodies) × (c .joint-bits .result .body2 < maxBodies)
+places c = ends _ _ (start (c .before) .pre .0) _ (c .before .loop-test .taken) (c .joint-bits .ensures)
+
 loop-holds : tie.Need-loop-holds Inv-loop μ-loop
 loop-holds c =
     let p = c .before .before .pre in
@@ -24,22 +34,25 @@ loop-holds c =
 
 loop-again : tie.Need-loop-again Inv-loop μ-loop
 loop-again c =
-    let k = c .before .before .before in
+    let b = c .before .before in
+    let k = b .before in
     let l = k .before .loop in
-    let p = c .before .before .before .before .before .before .before .pre in (
+    let p = start k .pre in (
       omega (arith, l .inv .0, k .loop-test .taken),
       l .inv .1,
-      after-turn _ _ (l .inv .2) (warm-skip _ _ _ (p .0) _ (p .2) _ (k .loop-test .taken) _ (l .inv .1) (c .before .before .joint-bits .ensures) (c .if1 .taken)),
+      after-turn _ _ (l .inv .2) (warm-skip _ _ _ (p .0) _ (p .2) _ (k .loop-test .taken) _ (l .inv .1) (b .joint-bits .ensures) (c .if1 .taken)),
     )
 
 loop-again-2 : tie.Need-loop-again-2 Inv-loop μ-loop
 loop-again-2 c =
-    let k = c .before .before .before .before .before .before .before .before .before .before .before .before in
+    let w = c .before .before .before .before .warm-start-joint in
+    let b = c .before .before .before .before .before .before .before .before .before .before .before in
+    let k = b .before in
     let l = k .before .loop in
-    let p = c .before .before .before .before .before .before .before .before .before .before .before .before .before .before .before .before .pre in (
+    let p = start k .pre in (
       omega (arith, l .inv .0, k .loop-test .taken),
       simp length-set (l .inv .1),
-      after-turn _ _ (l .inv .2) (warm-turn _ _ _ (p .0) _ (p .2) _ (k .loop-test .taken) _ (l .inv .1) (c .before .before .before .before .before .before .before .before .before .before .before .joint-bits .ensures) (c .before .before .before .before .warm-start-joint .result) (c .before .before .moved .ensures) (c .moved2 .ensures) (c .before .before .before .before .warm-start-joint .ensures)),
+      after-turn _ _ (l .inv .2) (warm-turn _ _ _ (p .0) _ (p .2) _ (k .loop-test .taken) _ (l .inv .1) (b .joint-bits .ensures) (w .result) (c .before .before .moved .ensures) (c .moved2 .ensures) (w .ensures)),
     )
 
 returns : tie.Need-returns Inv-loop μ-loop
@@ -47,4 +60,27 @@ unfolding warmStarted
 returns c = let l = c .before .loop in after-done _ _ (l .inv .2) (l .inv .0) (c .loop-test .left)
 
 pub warm-start-joints-spec : {M : Type 1} → statement M
-warm-start-joints-spec = tie.close (tie.spec Inv-loop μ-loop loop-holds (λ c κs. omega (arith, c .loop-test .taken, c .before .before .before .before .pre .0 .whole)) (λ c. omega (arith, c .before .before .before .loop-test .taken, c .before .before .before .before .loop .inv .0, c .before .before .before .before .before .before .before .pre .0 .few-joints)) (λ c. omega (arith, c .before .before .before .loop-test .taken, c .before .before .before .before .loop .inv .0, c .before .before .before .before .before .before .before .pre .0 .few-joints)) loop-again (λ c. omega (arith, ends _ _ (c .before .before .before .before .before .before .before .pre .0) _ (c .before .before .before .loop-test .taken) (c .before .before .joint-bits .ensures))) (λ c. omega (arith, ends _ _ (c .before .before .before .before .before .before .before .pre .0) _ (c .before .before .before .loop-test .taken) (c .before .before .joint-bits .ensures))) (λ c. omega (arith, ends _ _ (c .before .before .before .before .before .before .before .before .pre .0) _ (c .before .before .before .before .loop-test .taken) (c .before .before .before .joint-bits .ensures))) (λ c. omega (arith, ends _ _ (c .before .before .before .before .before .before .before .before .pre .0) _ (c .before .before .before .before .loop-test .taken) (c .before .before .before .joint-bits .ensures))) (λ c. omega (arith, ends _ _ (c .before .before .before .before .before .before .before .before .before .pre .0) _ (c .before .before .before .before .before .loop-test .taken) (c .before .before .before .before .joint-bits .ensures))) (λ c. omega (arith, ends _ _ (c .before .before .before .before .before .before .before .before .before .pre .0) _ (c .before .before .before .before .before .loop-test .taken) (c .before .before .before .before .joint-bits .ensures))) (λ c. omega (arith, ends _ _ (c .before .before .before .before .before .before .before .before .before .before .pre .0) _ (c .before .before .before .before .before .before .loop-test .taken) (c .before .before .before .before .before .joint-bits .ensures))) (λ c. omega (arith, ends _ _ (c .before .before .before .before .before .before .before .before .before .before .pre .0) _ (c .before .before .before .before .before .before .loop-test .taken) (c .before .before .before .before .before .joint-bits .ensures))) (λ c κs. (c .before .before .before .before .before .before .before .before .before .before .before .pre .0, c .before .before .before .before .before .before .before .before .before .before .before .pre .1, c .before .before .before .before .before .before .before .loop-test .taken)) (λ c. omega (arith, ends _ _ (c .before .before .before .before .before .before .before .before .before .before .before .before .pre .0) _ (c .before .before .before .before .before .before .before .before .loop-test .taken) (c .before .before .before .before .before .before .before .joint-bits .ensures))) (λ c. omega (arith, ends _ _ (c .before .before .before .before .before .before .before .before .before .before .before .before .pre .0) _ (c .before .before .before .before .before .before .before .before .loop-test .taken) (c .before .before .before .before .before .before .before .joint-bits .ensures))) (λ _ _. tt) (λ c. omega (arith, ends _ _ (c .before .before .before .before .before .before .before .before .before .before .before .before .before .before .pre .0) _ (c .before .before .before .before .before .before .before .before .before .before .loop-test .taken) (c .before .before .before .before .before .before .before .before .before .joint-bits .ensures))) (λ c. omega (arith, ends _ _ (c .before .before .before .before .before .before .before .before .before .before .before .before .before .before .pre .0) _ (c .before .before .before .before .before .before .before .before .before .before .loop-test .taken) (c .before .before .before .before .before .before .before .before .before .joint-bits .ensures))) (λ c. omega (arith, ends _ _ (c .before .before .before .before .before .before .before .before .before .before .before .before .before .before .pre .0) _ (c .before .before .before .before .before .before .before .before .before .before .loop-test .taken) (c .before .before .before .before .before .before .before .before .before .joint-bits .ensures))) (λ c. omega (arith, ends _ _ (c .before .before .before .before .before .before .before .before .before .before .before .before .before .before .pre .0) _ (c .before .before .before .before .before .before .before .before .before .before .loop-test .taken) (c .before .before .before .before .before .before .before .before .before .joint-bits .ensures))) (λ _ _. tt) (λ c. omega (arith, ends _ _ (c .before .before .before .before .before .before .before .before .before .before .before .before .before .before .before .before .pre .0) _ (c .before .before .before .before .before .before .before .before .before .before .before .before .loop-test .taken) (c .before .before .before .before .before .before .before .before .before .before .before .joint-bits .ensures))) (λ c. omega (arith, ends _ _ (c .before .before .before .before .before .before .before .before .before .before .before .before .before .before .before .before .pre .0) _ (c .before .before .before .before .before .before .before .before .before .before .before .before .loop-test .taken) (c .before .before .before .before .before .before .before .before .before .before .before .joint-bits .ensures))) (λ c. omega (arith, c .before .before .before .before .before .before .before .before .before .before .before .before .loop-test .taken, c .before .before .before .before .before .before .before .before .before .before .before .before .before .loop .inv .0, c .before .before .before .before .before .before .before .before .before .before .before .before .before .before .before .before .pre .0 .few-joints)) (λ c. omega (arith, c .before .before .before .before .before .before .before .before .before .before .before .before .loop-test .taken, c .before .before .before .before .before .before .before .before .before .before .before .before .before .loop .inv .0, c .before .before .before .before .before .before .before .before .before .before .before .before .before .before .before .before .pre .0 .few-joints)) loop-again-2 returns)
+warm-start-joints-spec =
+    tie.close
+    (tie.spec Inv-loop μ-loop
+    loop-holds (λ c κs. omega (arith, c .loop-test .taken, start c .pre .0 .whole))
+    (λ c. omega (arith, inside (c .before .before .before)))
+    (λ c. omega (arith, c .before .before .before .loop-test .taken)) loop-again
+    (λ c. omega (arith, places (c .before .before))) (λ c. omega (arith, places (c .before .before)))
+    (λ c. omega (arith, places (c .before .before .before))) (λ c. omega (arith, places (c .before .before .before)))
+    (λ c. omega (arith, places (c .before .before .before .before)))
+    (λ c. omega (arith, places (c .before .before .before .before)))
+    (λ c. omega (arith, places (c .before .before .before .before .before)))
+    (λ c. omega (arith, places (c .before .before .before .before .before)))
+    (λ c κs. let k = c .before .before .before .before .before .before .before in (start k .pre .0, start k .pre .1, k .loop-test .taken))
+    (λ c. omega (arith, places (c .before .before .before .before .before .before .before)))
+    (λ c. omega (arith, places (c .before .before .before .before .before .before .before))) (λ _ _. tt)
+    (λ c. omega (arith, places (c .before .before .before .before .before .before .before .before .before)))
+    (λ c. omega (arith, places (c .before .before .before .before .before .before .before .before .before)))
+    (λ c. omega (arith, places (c .before .before .before .before .before .before .before .before .before)))
+    (λ c. omega (arith, places (c .before .before .before .before .before .before .before .before .before))) (λ _ _. tt)
+    (λ c. omega (arith, places (c .before .before .before .before .before .before .before .before .before .before .before)))
+    (λ c. omega (arith, places (c .before .before .before .before .before .before .before .before .before .before .before)))
+    (λ c. omega (arith, inside (c .before .before .before .before .before .before .before .before .before .before .before .before)))
+    (λ c. omega (arith, c .before .before .before .before .before .before .before .before .before .before .before .before .loop-test .taken))
+    loop-again-2 returns)

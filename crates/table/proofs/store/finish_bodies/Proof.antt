@@ -1,10 +1,9 @@
-use Prim.Native.Nat.{_-_, _≤_}
+use Prim.Native.Nat.{_-_, _≤_, _<_}
 use native.Mathlib.Omega.{arith}
 use mathlib.Core.Path.{_≡_, sym, ap, _∙_}
 use mathlib.Core.Bool.{false}
 use lib.ListN.{replicate}
 use Rattle.tick.specs.Body.{restingBody, bodyFault}
-use Rattle.tick.specs.declared.body.BodyState.{BodyState}
 use Rattle.card.specs.Layout.{maxBodies}
 use Rattle.card.specs.Loop.{anyTo}
 use Rattle.card.proofs.Loops.{any-none, any-more}
@@ -23,6 +22,10 @@ Inv-loop table pre-solve solved count dt bodies₀ i₀ bodies i =
 abbrev μ-loop : tie.MeasureT-loop
 μ-loop table pre-solve solved count dt bodies₀ i₀ bodies i = count - i
 
+-- a turn's body has its place
+inside : (c : tie.In-loop Inv-loop μ-loop) → c .before .loop .i < maxBodies
+inside c = omega (arith, c .loop-test .taken, c .before .before .before .pre .0)
+
 loop-holds : tie.Need-loop-holds Inv-loop μ-loop
 loop-holds c = (omega arith, any-none _, sym (after-none _ _))
 
@@ -32,7 +35,7 @@ returns c =
     let l = k .before .loop in
     let d = c .before .before .before .before .before .before .before .before .dt .ensures in
     let p = c .before .before .before .before .before .before .before .before .before .pre in
-    let e = c .before .before .finished-or .ensures ∙ finish-is _ _ _ _ (l .i) (omega (arith, k .loop-test .taken, p .0)) (p .2) (p .3) (p .4) in
+    let e = c .before .before .finished-or .ensures ∙ finish-is _ _ _ _ (l .i) (inside k) (p .2) (p .3) (p .4) in
     rw (← d) (new-stopped _ _ (p .0) _ _ (k .loop-test .taken) (l .inv .2) (ap bodyFault (sym e) ∙ sym (c .before .fault .ensures) ∙ c .if1 .taken))
 
 loop-again : tie.Need-loop-again Inv-loop μ-loop
@@ -40,7 +43,7 @@ loop-again c =
     let k = c .before .before .before .before .before .before in
     let l = k .before .loop in
     let p = c .before .before .before .before .before .before .before .before .before .pre in
-    let e = c .before .before .finished-or .ensures ∙ finish-is _ _ _ _ (l .i) (omega (arith, k .loop-test .taken, p .0)) (p .2) (p .3) (p .4) in (
+    let e = c .before .before .finished-or .ensures ∙ finish-is _ _ _ _ (l .i) (inside k) (p .2) (p .3) (p .4) in (
       omega (arith, l .inv .0, k .loop-test .taken),
       any-more _ _ (l .inv .1) (ap bodyFault (sym e) ∙ sym (c .before .fault .ensures) ∙ c .if1 .left),
       after-turn _ _ (l .inv .2) (rw e),
@@ -52,4 +55,13 @@ returns-2 c =
     rw (← c .before .before .dt .ensures) (new-done _ _ (c .before .before .before .pre .0) _ _ (l .inv .0) (c .loop-test .left) (l .inv .1) (l .inv .2))
 
 pub finish-bodies-spec : {M : Type 1} → statement M
-finish-bodies-spec = tie.close (tie.spec Inv-loop μ-loop (λ c κs. c .pre .1) loop-holds (λ c. omega (arith, c .loop-test .taken, c .before .loop .inv .0, c .before .before .before .pre .0)) (λ c. omega (arith, c .loop-test .taken, c .before .loop .inv .0, c .before .before .before .pre .0)) (λ c. omega (arith, c .before .loop-test .taken, c .before .before .loop .inv .0, c .before .before .before .before .pre .0)) (λ c. omega (arith, c .before .loop-test .taken, c .before .before .loop .inv .0, c .before .before .before .before .pre .0)) (λ c. omega (arith, c .before .before .loop-test .taken, c .before .before .before .loop .inv .0, c .before .before .before .before .before .pre .0)) (λ c. omega (arith, c .before .before .loop-test .taken, c .before .before .before .loop .inv .0, c .before .before .before .before .before .pre .0)) (λ _ _. tt) (λ _ _. tt) returns (λ c. omega (arith, c .before .before .before .before .before .before .loop-test .taken, c .before .before .before .before .before .before .before .loop .inv .0, c .before .before .before .before .before .before .before .before .before .pre .0)) (λ c. omega (arith, c .before .before .before .before .before .before .loop-test .taken, c .before .before .before .before .before .before .before .loop .inv .0, c .before .before .before .before .before .before .before .before .before .pre .0)) (λ c. omega (arith, c .before .before .before .before .before .before .loop-test .taken, c .before .before .before .before .before .before .before .loop .inv .0, c .before .before .before .before .before .before .before .before .before .pre .0)) (λ c. omega (arith, c .before .before .before .before .before .before .loop-test .taken, c .before .before .before .before .before .before .before .loop .inv .0, c .before .before .before .before .before .before .before .before .before .pre .0)) loop-again returns-2)
+finish-bodies-spec =
+    tie.close
+    (tie.spec Inv-loop μ-loop
+    (λ c κs. c .pre .1) loop-holds (λ c. omega (arith, inside c)) (λ c. omega (arith, inside c))
+    (λ c. omega (arith, inside (c .before))) (λ c. omega (arith, inside (c .before)))
+    (λ c. omega (arith, inside (c .before .before))) (λ c. omega (arith, inside (c .before .before))) (λ _ _. tt)
+    (λ _ _. tt) returns (λ c. omega (arith, inside (c .before .before .before .before .before .before)))
+    (λ c. omega (arith, inside (c .before .before .before .before .before .before)))
+    (λ c. omega (arith, inside (c .before .before .before .before .before .before)))
+    (λ c. omega (arith, c .before .before .before .before .before .before .loop-test .taken)) loop-again returns-2)

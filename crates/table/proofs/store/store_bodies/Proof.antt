@@ -1,7 +1,8 @@
-use Prim.Native.Nat.{_-_, _≤_}
+use Prim.Native.Nat.{_-_, _≤_, _<_}
 use native.Mathlib.Omega.{arith}
 use mathlib.Core.Path.{_≡_, refl, sym}
 use lib.ListN.{length, length-set}
+use Rattle.card.specs.Layout.{maxBodies}
 use Rattle.table.specs.Loop.{after}
 use Rattle.table.specs.Parts.{storeNew}
 use Rattle.table.proofs.Loops.{after-none, after-turn, after-done}
@@ -15,6 +16,10 @@ Inv-loop count state₀ table new i₀ state i = (i ≤ count) × (length state 
 abbrev μ-loop : tie.MeasureT-loop
 μ-loop count state₀ table new i₀ state i = count - i
 
+-- a turn's body has its place
+inside : (c : tie.In-loop Inv-loop μ-loop) → c .before .loop .i < maxBodies
+inside c = omega (arith, c .loop-test .taken, c .before .before .before .pre .0)
+
 loop-holds : tie.Need-loop-holds Inv-loop μ-loop
 loop-holds c = (omega arith, refl, sym (after-none _ _))
 
@@ -26,7 +31,7 @@ loop-again c =
     let w = c .before .before .write-body .ensures in (
       omega (arith, l .inv .0, k .loop-test .taken),
       rw w (simp length-set (l .inv .1)),
-      after-turn _ _ (l .inv .2) (store-turn (a .args .t2) (a .args .t3) (l .i) (omega (arith, k .loop-test .taken, a .pre .0)) (a .pre .2) (a .pre .3) (l .state) (c .before .before .before .before .before .before .is-valid .ensures) (c .before .before .before .before .before .if1 .taken) w),
+      after-turn _ _ (l .inv .2) (store-turn (a .args .t2) (a .args .t3) (l .i) (inside k) (a .pre .2) (a .pre .3) (l .state) (c .before .before .before .before .before .before .is-valid .ensures) (c .before .before .before .before .before .if1 .taken) w),
     )
 
 loop-again-2 : tie.Need-loop-again-2 Inv-loop μ-loop
@@ -36,7 +41,7 @@ loop-again-2 c =
     let a = c .before .before .before .before .before .before in (
       omega (arith, l .inv .0, k .loop-test .taken),
       l .inv .1,
-      after-turn _ _ (l .inv .2) (store-skip (a .args .t2) (a .args .t3) (l .i) (omega (arith, k .loop-test .taken, a .pre .0)) (a .pre .2) (a .pre .3) (l .state) (c .before .is-valid .ensures) (c .if1 .left)),
+      after-turn _ _ (l .inv .2) (store-skip (a .args .t2) (a .args .t3) (l .i) (inside k) (a .pre .2) (a .pre .3) (l .state) (c .before .is-valid .ensures) (c .if1 .left)),
     )
 
 same-length : tie.Need-same-length Inv-loop μ-loop
@@ -46,4 +51,13 @@ returns : tie.Need-returns Inv-loop μ-loop
 returns c = let l = c .before .loop in after-done _ _ (l .inv .2) (l .inv .0) (c .loop-test .left)
 
 pub store-bodies-spec : {M : Type 1} → statement M
-store-bodies-spec = tie.close (tie.spec Inv-loop μ-loop loop-holds (λ c. omega (arith, c .loop-test .taken, c .before .loop .inv .0, c .before .before .before .pre .0)) (λ c. omega (arith, c .loop-test .taken, c .before .loop .inv .0, c .before .before .before .pre .0)) (λ _ _. tt) (λ c. omega (arith, c .before .before .before .loop-test .taken, c .before .before .before .before .loop .inv .0, c .before .before .before .before .before .before .pre .0)) (λ c. omega (arith, c .before .before .before .loop-test .taken, c .before .before .before .before .loop .inv .0, c .before .before .before .before .before .before .pre .0)) (λ c κs. let l = c .before .before .before .before .before .before .loop in omega (arith, c .before .before .before .before .before .loop-test .taken, l .inv .1, c .before .before .before .before .before .before .before .before .pre .1)) (λ c. omega (arith, c .before .before .before .before .before .before .before .before .loop-test .taken, c .before .before .before .before .before .before .before .before .before .loop .inv .0, c .before .before .before .before .before .before .before .before .before .before .before .pre .0)) (λ c. omega (arith, c .before .before .before .before .before .before .before .before .loop-test .taken, c .before .before .before .before .before .before .before .before .before .loop .inv .0, c .before .before .before .before .before .before .before .before .before .before .before .pre .0)) loop-again (λ c. omega (arith, c .before .before .before .loop-test .taken, c .before .before .before .before .loop .inv .0, c .before .before .before .before .before .before .pre .0)) (λ c. omega (arith, c .before .before .before .loop-test .taken, c .before .before .before .before .loop .inv .0, c .before .before .before .before .before .before .pre .0)) loop-again-2 same-length returns)
+store-bodies-spec =
+    tie.close
+    (tie.spec Inv-loop μ-loop
+    loop-holds (λ c. omega (arith, inside c)) (λ c. omega (arith, inside c)) (λ _ _. tt)
+    (λ c. omega (arith, inside (c .before .before .before))) (λ c. omega (arith, inside (c .before .before .before)))
+    (λ c κs. let l = c .before .before .before .before .before .before .loop in omega (arith, c .before .before .before .before .before .loop-test .taken, l .inv .1, c .before .before .before .before .before .before .before .before .pre .1))
+    (λ c. omega (arith, inside (c .before .before .before .before .before .before .before .before)))
+    (λ c. omega (arith, c .before .before .before .before .before .before .before .before .loop-test .taken)) loop-again
+    (λ c. omega (arith, inside (c .before .before .before)))
+    (λ c. omega (arith, c .before .before .before .loop-test .taken)) loop-again-2 same-length returns)

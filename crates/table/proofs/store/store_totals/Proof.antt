@@ -36,4 +36,12 @@ returns : tie.Need-returns Inv-loop μ-loop
 returns c = let l = c .before .loop in after-done _ _ (l .inv .2) (l .inv .0) (c .loop-test .left)
 
 pub store-totals-spec : {M : Type 1} → statement M
-store-totals-spec = tie.close (tie.spec Inv-loop μ-loop loop-holds (λ c. omega (arith, c .before .loop-test .taken, c .before .before .loop .inv .0, c .before .before .before .before .pre .0)) (λ c. omega (arith, c .before .loop-test .taken, c .before .before .loop .inv .0, c .before .before .before .before .pre .0)) (λ c κs. let l = c .before .before .before .loop in omega (arith, c .before .before .loop-test .taken, l .inv .1, c .before .before .before .before .before .pre .1)) (λ c. omega (arith, c .before .before .before .before .before .loop-test .taken, c .before .before .before .before .before .before .loop .inv .0, c .before .before .before .before .before .before .before .before .pre .0)) (λ c. omega (arith, c .before .before .before .before .before .loop-test .taken, c .before .before .before .before .before .before .loop .inv .0, c .before .before .before .before .before .before .before .before .pre .0)) loop-again same-length returns)
+store-totals-spec =
+    tie.close
+    (tie.spec Inv-loop μ-loop
+    loop-holds (λ c. omega (arith, c .before .loop-test .taken, c .before .before .before .before .pre .0))
+    (λ c. omega (arith, c .before .loop-test .taken, c .before .before .before .before .pre .0))
+    (λ c κs. let l = c .before .before .before .loop in omega (arith, c .before .before .loop-test .taken, l .inv .1, c .before .before .before .before .before .pre .1))
+    (λ c. omega (arith, c .before .before .before .before .before .loop-test .taken, c .before .before .before .before .before .before .before .before .pre .0))
+    (λ c. omega (arith, c .before .before .before .before .before .loop-test .taken, c .before .before .before .before .before .before .before .before .pre .0))
+    loop-again same-length returns)

@@ -1,4 +1,3 @@
-use Prim.Native.Nat.{_+_, _*_}
 use borrow.Author.Needs.{needs}
 use Rattle.table.specs.Tick.{totalsPlace}
 use Rattle.table.proofs.Ends.{totals-written}
@@ -12,4 +11,9 @@ returns c =
     (c .before .before .before .before .before .before .before .before .before .before .before .before .before .before .write-vec3 .ensures) (c .before .before .before .before .before .before .before .before .before .before .write-vec32 .ensures) (c .before .before .before .before .before .before .write-vec33 .ensures) (c .before .before .write-vec34 .ensures)
 
 pub write-totals-spec : {M : Type 1} → statement M
-write-totals-spec = tie.close (tie.spec (λ c. search needs) (λ c. search needs) (λ c. search needs) (λ c κs. search needs) (λ c. search needs) (λ c κs. search needs) (λ c. search needs) (λ c κs. search needs) (λ c. search needs) (λ c κs. search needs) (λ c. search needs) returns)
+write-totals-spec =
+    tie.close
+    (tie.spec
+    (λ c. search needs) (λ c. search needs) (λ c. search needs) (λ c κs. search needs) (λ c. search needs)
+    (λ c κs. search needs) (λ c. search needs) (λ c κs. search needs) (λ c. search needs) (λ c κs. search needs)
+    (λ c. search needs) returns)
