@@ -107,7 +107,7 @@ module _ (card : List ℕ) (h : Header) (s : List Float) where
   abbrev pub secondBody : ℕ → ℕ
   secondBody j = jointBits card (h .bodies) j .body2
 
-  -- for the warm start and the solve
+  -- the same for the warm start and the solve
   abbrev pub inertiasAt : ℕ → InertiaPair
   inertiasAt j = dominatedOf (inertiaAt card (firstBody j)) (inertiaAt card (secondBody j))
 
@@ -137,12 +137,14 @@ module _ (card : List ℕ) (h : Header) (s : List Float) where
   abbrev pub integrateNext : ℕ → List SolverBody → List SolverBody
   integrateNext i bodies = putMoving card i (integrated (getD bodies i dummyBody) (inertiaAt card i) (h .gravity) (dtOf h)) bodies
 
+  -- the places past the last body are never read
   unfoldable pub loaded : List SolverBody
   loaded = after (loadNext card s) (replicate maxBodies dummyBody) (h .bodies)
 
   unfoldable pub warmStarted : List SolverBody
   warmStarted = after warmStartNext loaded (h .joints)
 
+  -- kept for the projections
   unfoldable pub preSolve : List SolverBody
   preSolve = after integrateNext warmStarted (h .bodies)
 
@@ -188,6 +190,7 @@ module _ (card : List ℕ) (h : Header) (s : List Float) where
   unfoldable pub stored : Solved → List Float
   stored σ = after (storeTotals (h .bodies) (σ .totals)) (after (storeBody σ) s (h .bodies)) (h .joints)
 
+  -- the number that is answered, and the state after
   unfoldable pub finished : Solved → Answered
   finished σ =
       if σ .stopped then answered 13 s
