@@ -143,6 +143,46 @@ pub fn warm_start_motors(
     }
 }
 
+// The bodies after `prepare` and `warm_start_motors`, without what these make for the solve alone.
+pub fn warm_started_bodies(
+    joint: PrismaticJoint,
+    body1: RigidBody,
+    body2: RigidBody,
+    warm_start_motor_lagrange: f32,
+    bodies: BodyPair,
+    inertia1: SolverBodyInertia,
+    inertia2: SolverBodyInertia,
+    warm_start_coefficient: f32,
+) -> BodyPair
+    ensures { λ b. ⌜ b ≡ prismaticWarmStarted joint (prismaticPrepared joint body1 body2 «warm_start_motor_lagrange») bodies inertia1 inertia2 «warm_start_coefficient» .bodies ⌝ }
+{
+    let motor = joint.motor;
+    if !motor.enabled {
+        return bodies;
+    }
+    let delta_rotation1 = bodies.body1.delta_rotation;
+    let free_axis1 = body1
+        .rotation
+        .mul_quat(joint.frame1.basis)
+        .mul_vec3(joint.slider_axis);
+    let axis = delta_rotation1.mul_vec3(free_axis1);
+    let world_r1 = delta_rotation1.mul_vec3(anchor_arm(body1, joint.frame1.anchor));
+    let world_r2 = bodies
+        .body2
+        .delta_rotation
+        .mul_vec3(anchor_arm(body2, joint.frame2.anchor));
+    push_velocities(
+        bodies,
+        inertia1.effective_inv_mass(),
+        inertia2.effective_inv_mass(),
+        inertia1.inv_angular_inertia,
+        inertia2.inv_angular_inertia,
+        axis.scale(warm_start_coefficient * warm_start_motor_lagrange),
+        world_r1,
+        world_r2,
+    )
+}
+
 fn drive(
     lagrange: MotorLagrange,
     bodies: BodyPair,

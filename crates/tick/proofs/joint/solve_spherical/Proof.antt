@@ -1,0 +1,25 @@
+use Rattle.xpbd_plugin.specs.Joint.{jointPrepared, jointSolved}
+use Rattle.tick.specs.Joint.{preparedFinite, totalsOf, keptOf}
+use Rattle.tick.proofs.joint.solve_spherical.Statement.{statement}
+use Rattle.tick.proofs.joint.solve_spherical.Tie as tie
+
+returns : tie.Need-returns
+unfolding jointPrepared jointSolved keptOf preparedFinite totalsOf
+returns c =
+    let c1 = c .before in
+    let c2 = c1 .before in
+    let c3 = c2 .before in
+    let c4 = c3 .before in
+    let c5 = c4 .before in
+    let c6 = c5 .before in
+    let c7 = c6 .before in
+    let c8 = c7 .before in
+    simp (
+      c8 .prepare .ensures,
+      c7 .solve .ensures,
+      c1 .point-finite .ensures,
+      c .axes-finite .ensures,
+    )
+
+pub solve-spherical-spec : {M : Type 1} → statement M
+solve-spherical-spec = tie.close (tie.spec (λ _ _. tt) (λ _ _. tt) (λ _ _. tt) (λ _ _. tt) returns)
