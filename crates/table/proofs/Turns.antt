@@ -34,8 +34,8 @@ use Rattle.card.specs.declared.records.JointBits.{JointBits}
 use Rattle.card_records.specs.Decode.{inertiaAt, angularMotorAt, linearMotorAt, revoluteAt, prismaticAt, joints, jointOf, jointAt}
 use Rattle.card_records.specs.declared.joint.CardJoint.the-variants.{Unknown}
 use Rattle.table.specs.Loop.{after}
-use Rattle.table.specs.Tick.{bodyStateAt, anchoredAt, putMoving, loadNext, knownJoint, loaded, warmStarted, firstBody, secondBody, preparedAt, pairAt, putPair, warmStartedAt, warmStartNext, integrateNext, preSolve, solvedAt, stop, solveNext, before}
-use Rattle.table.specs.Parts.{SoundCard, indexOf, tickBodyAt, noTickBody, TickBodies, isValid, moved, integratedOr, preparedWith, warmStartedWith, solvedWith}
+use Rattle.table.specs.Tick.{bodyStateAt, noJoint, anchoredAt, putMoving, loadNext, knownJoint, loaded, warmStarted, firstBody, secondBody, preparedAt, pairAt, putPair, warmStartedAt, warmStartNext, integrateNext, preSolve, solvedAt, stop, solveNext, before}
+use Rattle.table.specs.Parts.{SoundCard, indexOf, tickBodyAt, noTickBody, TickBodies, isValid, moved, integratedOr, CardJoints, warmValueAt, warmStartedWith, solvedWith}
 use Rattle.table.specs.declared.load.TickBody.{TickBody}
 use Rattle.table.specs.declared.solve.Solved.{Solved}
 use Rattle.table.proofs.Loops.{after-turn, after-kept, after-all, getD-in}
@@ -206,7 +206,16 @@ put-back card h s j bodies =
     ap (λ l. putMoving card (secondBody card h s j) (getD bodies (secondBody card h s j) dummyBody) l) (put-same (anchoredAt card (firstBody card h s j)) bodies (firstBody card h s j))
     ∙ put-same (anchoredAt card (secondBody card h s j)) bodies (secondBody card h s j)
 
-module _ (card : List ℕ) (h : Header) (s : List Float) (S : SoundCard card h) (table : List TickBody) (T : TickBodies card s (h .bodies) table) where
+-- what the array of joints holds, whatever a read past its end would give
+pub joint-held : (card : List ℕ) (h : Header) (joints : List Joint) → CardJoints card h joints → h .joints ≤ maxJoints
+    → (d : Joint) (j : ℕ) → j < h .joints → getD joints j d ≡ knownJoint (jointAt card (h .bodies) j)
+joint-held card h joints J few d j k = getD-in joints j d noJoint (rw (J .places) (omega arith)) ∙ J .each j k
+
+module _ (card : List ℕ) (h : Header) (s : List Float) (S : SoundCard card h) (table : List TickBody) (T : TickBodies card s (h .bodies) table)
+    (held-joints : List Joint) (J : CardJoints card h held-joints) (noRead : Joint) where
+  abbrev heldJoint : ℕ → Joint
+  heldJoint j = getD held-joints j noRead
+
   abbrev tickBody : ℕ → TickBody
   tickBody i = getD table i unreadTickBody
 
@@ -244,15 +253,18 @@ module _ (card : List ℕ) (h : Header) (s : List Float) (S : SoundCard card h) 
         rw e₂ (q ∙ ap (λ l. putMoving card (secondBody card h s j) (pair .body2) l) (rw e₁ p))
 
     -- what a joint's parts make of the bodies in the array
-    warm-is : warmStartedWith card h s j (tickBody (firstBody card h s j)) (tickBody (secondBody card h s j)) (pairOf (jointBits card (h .bodies) j) bodies)
-        ≡ warmStartedAt card h s j bodies
-    unfolding warmStartedWith preparedWith preparedAt tickBodyAt
-    warm-is = rw (first-is, second-is, pair-is)
+    joint-is : heldJoint j ≡ knownJoint (jointAt card (h .bodies) j)
+    joint-is = joint-held card h held-joints J (S .few-joints) noRead j k
 
-    solved-is : solvedWith card h s j (tickBody (firstBody card h s j)) (tickBody (secondBody card h s j)) (pairOf (jointBits card (h .bodies) j) bodies)
+    warm-is : warmStartedWith (heldJoint j) h s j (tickBody (firstBody card h s j)) (tickBody (secondBody card h s j)) (pairOf (jointBits card (h .bodies) j) bodies)
+        ≡ warmStartedAt card h s j bodies
+    unfolding warmStartedWith warmValueAt preparedAt tickBodyAt
+    warm-is = rw (joint-is, first-is, second-is, pair-is)
+
+    solved-is : solvedWith (heldJoint j) h s j (tickBody (firstBody card h s j)) (tickBody (secondBody card h s j)) (pairOf (jointBits card (h .bodies) j) bodies)
         ≡ resultOf (solvedAt card h s j bodies)
-    unfolding solvedWith preparedWith preparedAt tickBodyAt
-    solved-is = rw (first-is, second-is, pair-is)
+    unfolding solvedWith warmValueAt preparedAt tickBodyAt
+    solved-is = rw (joint-is, first-is, second-is, pair-is)
 
     module _ {b : JointBits} (eb : b ≡ jointBits card (h .bodies) j) (pair : BodyPair) {b₁ b₂ : SolverBody}
         (e₁ : b₁ ≡ moved (tickBody (b .body1) .index) (getD bodies (b .body1) unreadBody) (pair .body1))
@@ -260,13 +272,13 @@ module _ (card : List ℕ) (h : Header) (s : List Float) (S : SoundCard card h) 
       put-pair : set (set bodies (b .body1) b₁) (b .body2) b₂ ≡ putPair card h s j pair bodies
       put-pair = rw eb (put-both pair (rw eb at e₁) (rw eb at e₂))
 
-      pub warm-turn : pair ≡ warmStartedWith card h s j (tickBody (b .body1)) (tickBody (b .body2)) (pairOf b bodies)
+      pub warm-turn : pair ≡ warmStartedWith (heldJoint j) h s j (tickBody (b .body1)) (tickBody (b .body2)) (pairOf b bodies)
           → set (set bodies (b .body1) b₁) (b .body2) b₂ ≡ warmStartNext card h s j bodies
       warm-turn ew = put-pair ∙ ap (λ p. putPair card h s j p bodies) ((rw eb at ew) ∙ warm-is)
 
       -- the joints so far, one more
       pub solve-more : (totals : List JointTotals) {r : JointResult} → live bodies totals ≡ before card h s j
-          → r ≡ solvedWith card h s j (tickBody (b .body1)) (tickBody (b .body2)) (pairOf b bodies) → r .bodies ≡ pair → not (r .finite) ≡ false
+          → r ≡ solvedWith (heldJoint j) h s j (tickBody (b .body1)) (tickBody (b .body2)) (pairOf b bodies) → r .bodies ≡ pair → not (r .finite) ≡ false
           → live (set (set bodies (b .body1) b₁) (b .body2) b₂) (set totals j (r .totals)) ≡ before card h s (j + 1)
       unfolding before solveNext resultOf
       solve-more totals {r} inv er ep ef =
@@ -277,7 +289,7 @@ module _ (card : List ℕ) (h : Header) (s : List Float) (S : SoundCard card h) 
 
     -- the last
     pub solve-stop : {b : JointBits} (totals : List JointTotals) {r : JointResult} → b ≡ jointBits card (h .bodies) j
-        → live bodies totals ≡ before card h s j → r ≡ solvedWith card h s j (tickBody (b .body1)) (tickBody (b .body2)) (pairOf b bodies)
+        → live bodies totals ≡ before card h s j → r ≡ solvedWith (heldJoint j) h s j (tickBody (b .body1)) (tickBody (b .body2)) (pairOf b bodies)
         → not (r .finite) ≡ true → stop card h s (live bodies totals) ≡ before card h s (h .joints)
     unfolding before solveNext resultOf
     solve-stop {b} totals {r} eb inv er ef =

@@ -10,14 +10,14 @@ use lib.Ieee.{Float}
 use Rattle.scalar.specs.Arith.{if_then_else_}
 use Rattle.vector.specs.Vector.{origin}
 use Rattle.vector.specs.Rotation.{identity}
+use Rattle.vector.specs.declared.Vec3.{Vec3}
+use Rattle.joints.specs.declared.Joint.{Joint}
 use Rattle.solver_body.specs.Body.{dummyBody, dummyInertia}
-use Rattle.solver_body.specs.declared.RigidBody.{RigidBody}
 use Rattle.solver_body.specs.declared.SolverBody.{SolverBody}
 use Rattle.solver_body.specs.declared.SolverBodyIndex.{SolverBodyIndex}
 use Rattle.solver_body.specs.declared.BodyPair.{BodyPair}
 use Rattle.xpbd_plugin.specs.Plugin.{dominatedOf}
 use Rattle.xpbd_plugin.specs.Joint.{jointPrepared, jointWarmStarted, jointSolved}
-use Rattle.xpbd_plugin.specs.declared.PreparedJoint.{PreparedJoint}
 use Rattle.tick.specs.Body.{integrated, restingBody, finishedBody, bodyFault}
 use Rattle.tick.specs.Joint.{warmValue, resultOf}
 use Rattle.tick.specs.declared.body.BodyState.{BodyState}
@@ -28,7 +28,7 @@ use Rattle.card.specs.Records.{jointBits, dtOf}
 use Rattle.card.specs.declared.records.Header.{Header}
 use Rattle.card_records.specs.Decode.{inertiaAt, jointAt}
 use Rattle.card_records.specs.State.{stateFault, Answered, answered}
-use Rattle.table.specs.Tick.{bodyStateNumbers, totalsAt, anchoredAt, rigidAt, knownJoint, tickAccepted}
+use Rattle.table.specs.Tick.{bodyStateNumbers, totalsAt, noJoint, anchoredAt, rigidAt, knownJoint, tickAccepted}
 use Rattle.table.specs.declared.load.TickBody.{TickBody}
 use Rattle.table.specs.declared.store.NewBodies.{NewBodies}
 
@@ -96,21 +96,24 @@ storeNew table new i s =
 
 -- ---- joints
 
-module _ (card : List ℕ) (h : Header) (s : List Float) (j : ℕ) where
-  unfoldable pub preparedWith : RigidBody → RigidBody → PreparedJoint
-  preparedWith r₁ r₂ =
-      let joint = knownJoint (jointAt card (h .bodies) j) in
-      jointPrepared joint r₁ r₂ (warmValue joint (totalsAt s (h .bodies) j) (dtOf h))
+-- the joints, each in its place
+pub record CardJoints (card : List ℕ) (h : Header) (joints : List Joint) : Type 0 where
+  pub places : length joints ≡ maxJoints
+  pub each : (j : ℕ) → j < h .joints → getD joints j noJoint ≡ knownJoint (jointAt card (h .bodies) j)
+
+module _ (joint : Joint) (h : Header) (s : List Float) (j : ℕ) where
+  unfoldable pub warmValueAt : Vec3
+  warmValueAt = warmValue joint (totalsAt s (h .bodies) j) (dtOf h)
 
   unfoldable pub warmStartedWith : TickBody → TickBody → BodyPair → BodyPair
   warmStartedWith t₁ t₂ b =
       let i = dominatedOf (t₁ .inertia) (t₂ .inertia) in
-      jointWarmStarted (preparedWith (t₁ .rigid) (t₂ .rigid)) b (i .inertia1) (i .inertia2) (h .«warm_coefficient») .bodies
+      jointWarmStarted (jointPrepared joint (t₁ .rigid) (t₂ .rigid) warmValueAt) b (i .inertia1) (i .inertia2) (h .«warm_coefficient») .bodies
 
   unfoldable pub solvedWith : TickBody → TickBody → BodyPair → JointResult
   solvedWith t₁ t₂ b =
       let i = dominatedOf (t₁ .inertia) (t₂ .inertia) in
-      resultOf (jointSolved (preparedWith (t₁ .rigid) (t₂ .rigid)) b (i .inertia1) (i .inertia2) (dtOf h))
+      resultOf (jointSolved (jointPrepared joint (t₁ .rigid) (t₂ .rigid) warmValueAt) b (i .inertia1) (i .inertia2) (dtOf h))
 
 -- ---- a tick of a card that no check refuses
 

@@ -70,11 +70,13 @@ totalsNumbers t = numbers3 (t .first) ++ numbers3 (t .second) ++ numbers3 (t .th
 abbrev pub storeTotals : ℕ → List JointTotals → ℕ → List Float → List Float
 storeTotals bodies totals j s = sets s (totalsPlace bodies j) (totalsNumbers (getD totals j noTotals))
 
+abbrev pub noJoint : Joint
+noJoint = Distance (record { body1 = 0; body2 = 0; anchor1 = origin; anchor2 = origin; limits = record { min = f0; max = f0 }; compliance = f0 })
+
 -- a card that no check refuses has no unknown kind
 unfoldable pub knownJoint : CardJoint → Joint
 knownJoint (Known j) = j
-knownJoint Unknown =
-    Distance (record { body1 = 0; body2 = 0; anchor1 = origin; anchor2 = origin; limits = record { min = f0; max = f0 }; compliance = f0 })
+knownJoint Unknown = noJoint
 
 -- ---- bodies
 

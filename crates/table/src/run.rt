@@ -5,10 +5,11 @@ ghost use Rattle.card.specs.Answer.{numberOf};
 ghost use Rattle.card_records.specs.State.{answered};
 ghost use Rattle.table.specs.Tick.{tickAccepted};
 ghost use Rattle.table.specs.Run.{tickOf, runOf};
-ghost use Rattle.table.specs.Parts.{SoundCard, SoundState, tickChecked};
+ghost use Rattle.table.specs.Parts.{SoundCard, SoundState, CardJoints, tickChecked};
 use crate::load::integrate_bodies;
 use crate::load::start_bodies;
 use crate::load::tick_bodies;
+use crate::solve::card_joints;
 use crate::solve::solve_joints;
 use crate::solve::warm_start_joints;
 use crate::store::finish_bodies;
@@ -16,21 +17,28 @@ use crate::store::store_bodies;
 use crate::store::store_totals;
 use card::answer::Answer;
 use card::checks::check;
+use card::layout::MAX_JOINTS;
 use card::records::Header;
 use card::records::header_at;
 use card_records::state::check_state;
 use card_records::state::state_answer;
+use joints::Joint;
 
 // A tick of a card and a state that no check refuses.
-fn tick_accepted(card: &[u8], h: Header, state: &mut [f32]) -> Answer
-    requires { ⌜ SoundCard (now card) h × SoundState h (now state) ⌝ }
+fn tick_accepted(
+    card: &[u8],
+    h: Header,
+    card_joints: [Joint; MAX_JOINTS],
+    state: &mut [f32],
+) -> Answer
+    requires { ⌜ SoundCard (now card) h × SoundState h (now state) × CardJoints (now card) h «card_joints» ⌝ }
     ensures { λ r. ⌜ answered (numberOf r) (now (state .exit)) ≡ tickAccepted (now (card .entry)) h (now (state .entry)) ⌝ }
 {
     let table = tick_bodies(card, h, state);
     let start = start_bodies(card, h, state, table);
-    let warm_started = warm_start_joints(card, h, state, table, start);
+    let warm_started = warm_start_joints(card, h, state, table, start, card_joints);
     let pre_solve = integrate_bodies(card, h, state, table, warm_started);
-    let solved = solve_joints(card, h, state, table, pre_solve);
+    let solved = solve_joints(card, h, state, table, pre_solve, card_joints);
     if solved.stopped {
         return Answer::Stopped;
     }
@@ -46,13 +54,18 @@ fn tick_accepted(card: &[u8], h: Header, state: &mut [f32]) -> Answer
     Answer::Done
 }
 
-fn tick_checked(card: &[u8], h: Header, state: &mut [f32]) -> Answer
-    requires { ⌜ SoundCard (now card) h ⌝ }
+fn tick_checked(
+    card: &[u8],
+    h: Header,
+    card_joints: [Joint; MAX_JOINTS],
+    state: &mut [f32],
+) -> Answer
+    requires { ⌜ SoundCard (now card) h × CardJoints (now card) h «card_joints» ⌝ }
     ensures { λ r. ⌜ answered (numberOf r) (now (state .exit)) ≡ tickChecked (now (card .entry)) h (now (state .entry)) ⌝ }
 {
     let answer = state_answer(h.bodies, h.joints, state);
     if answer.number() == 0 {
-        return tick_accepted(card, h, state);
+        return tick_accepted(card, h, card_joints, state);
     }
     answer
 }
@@ -63,7 +76,8 @@ pub fn tick(card: &[u8], state: &mut [f32]) -> Answer
 {
     let answer = check(card);
     if answer.number() == 0 {
-        return tick_checked(card, header_at(card), state);
+        let h = header_at(card);
+        return tick_checked(card, h, card_joints(card, h), state);
     }
     answer
 }
@@ -77,9 +91,10 @@ pub fn run(card: &[u8], state: &mut [f32], ticks: u32) -> Answer
         return answer;
     }
     let h = header_at(card);
+    let joints = card_joints(card, h);
     let mut i = 0;
     while i < ticks {
-        let last = tick_checked(card, h, state);
+        let last = tick_checked(card, h, joints, state);
         if last.number() != 0 {
             return last;
         }

@@ -1,8 +1,9 @@
 // The joints of a card, in its order: their warm start, then their solve.
 ghost use mathlib.Core.Path.{_≡_};
-ghost use Prim.Native.Nat.{_<_};
+ghost use Prim.Native.Nat.{_≤_, _<_};
+ghost use Rattle.card.specs.Layout.{maxRate};
 ghost use Rattle.table.specs.Tick.{knownJoint, loaded, warmStarted, preSolve, before};
-ghost use Rattle.table.specs.Parts.{SoundCard, SoundState, TickBodies, preparedWith, warmStartedWith, solvedWith};
+ghost use Rattle.table.specs.Parts.{SoundCard, SoundState, TickBodies, CardJoints, warmValueAt, warmStartedWith, solvedWith};
 use crate::load::TickBody;
 use crate::load::moved;
 use crate::load::totals_at;
@@ -16,18 +17,12 @@ use joints::DistanceLimit;
 use joints::Joint;
 use joints::distance::DistanceJoint;
 use solver_body::BodyPair;
-use solver_body::RigidBody;
 use solver_body::SolverBody;
+use tick::joint;
 use tick::joint::JointResult;
 use tick::joint::JointTotals;
-use tick::joint::result_of;
-use tick::joint::warm_value;
 use vector::Vec3;
-use xpbd_plugin::PreparedJoint;
 use xpbd_plugin::dominated;
-use xpbd_plugin::prepare_xpbd_joint;
-use xpbd_plugin::solve_xpbd_joint;
-use xpbd_plugin::warm_start_xpbd_motors;
 
 // The solver's bodies and the joints' totals, after the joints so far.
 pub struct Solved {
@@ -53,25 +48,31 @@ fn known_joint(joint: CardJoint) -> Joint
     }
 }
 
-fn prepare_joint(
-    card: &[u8],
-    h: Header,
-    state: &[f32],
-    j: usize,
-    body1: RigidBody,
-    body2: RigidBody,
-) -> PreparedJoint
-    requires { ⌜ SoundCard (now card) h × SoundState h (now state) × (j < h .joints) ⌝ }
-    ensures { λ r. ⌜ r ≡ preparedWith (now (card .entry)) h (now (state .entry)) j body1 body2 ⌝ }
+// The joints, each in its place: decoded once for all ticks.
+pub fn card_joints(card: &[u8], h: Header) -> [Joint; MAX_JOINTS]
+    requires { ⌜ SoundCard (now card) h ⌝ }
+    ensures { λ r. ⌜ CardJoints (now (card .entry)) h r ⌝ }
 {
-    let bodies = h.bodies;
-    let joint = known_joint(joint_at(card, bodies, j));
-    let warm = warm_value(joint, totals_at(state, bodies, j), h.dt());
-    prepare_xpbd_joint(joint, body1, body2, warm)
+    let count = h.joints;
+    let mut joints = [known_joint(CardJoint::Unknown); MAX_JOINTS];
+    let mut j = 0;
+    while j < count {
+        let joint = known_joint(joint_at(card, h.bodies, j));
+        joints[j] = joint;
+        j += 1;
+    }
+    joints
+}
+
+fn warm_value_at(joint: Joint, h: Header, state: &[f32], j: usize) -> Vec3
+    requires { ⌜ (h .rate ≤ maxRate) × SoundState h (now state) × (j < h .joints) ⌝ }
+    ensures { λ r. ⌜ r ≡ warmValueAt joint h (now (state .entry)) j ⌝ }
+{
+    joint::warm_value(joint, totals_at(state, h.bodies, j), h.dt())
 }
 
 fn warm_start_joint(
-    card: &[u8],
+    joint: Joint,
     h: Header,
     state: &[f32],
     j: usize,
@@ -79,17 +80,25 @@ fn warm_start_joint(
     body2: TickBody,
     bodies: BodyPair,
 ) -> BodyPair
-    requires { ⌜ SoundCard (now card) h × SoundState h (now state) × (j < h .joints) ⌝ }
-    ensures { λ r. ⌜ r ≡ warmStartedWith (now (card .entry)) h (now (state .entry)) j body1 body2 bodies ⌝ }
+    requires { ⌜ (h .rate ≤ maxRate) × SoundState h (now state) × (j < h .joints) ⌝ }
+    ensures { λ r. ⌜ r ≡ warmStartedWith joint h (now (state .entry)) j body1 body2 bodies ⌝ }
 {
-    let prepared = prepare_joint(card, h, state, j, body1.rigid, body2.rigid);
+    let warm_value = warm_value_at(joint, h, state, j);
     let i = dominated(body1.inertia, body2.inertia);
-    let warm = warm_start_xpbd_motors(prepared, bodies, i.inertia1, i.inertia2, h.warm_coefficient);
-    warm.bodies
+    joint::warm_start_joint(
+        joint,
+        body1.rigid,
+        body2.rigid,
+        warm_value,
+        bodies,
+        i.inertia1,
+        i.inertia2,
+        h.warm_coefficient,
+    )
 }
 
 fn solve_joint(
-    card: &[u8],
+    joint: Joint,
     h: Header,
     state: &[f32],
     j: usize,
@@ -97,12 +106,21 @@ fn solve_joint(
     body2: TickBody,
     bodies: BodyPair,
 ) -> JointResult
-    requires { ⌜ SoundCard (now card) h × SoundState h (now state) × (j < h .joints) ⌝ }
-    ensures { λ r. ⌜ r ≡ solvedWith (now (card .entry)) h (now (state .entry)) j body1 body2 bodies ⌝ }
+    requires { ⌜ (h .rate ≤ maxRate) × SoundState h (now state) × (j < h .joints) ⌝ }
+    ensures { λ r. ⌜ r ≡ solvedWith joint h (now (state .entry)) j body1 body2 bodies ⌝ }
 {
-    let prepared = prepare_joint(card, h, state, j, body1.rigid, body2.rigid);
+    let warm_value = warm_value_at(joint, h, state, j);
     let i = dominated(body1.inertia, body2.inertia);
-    result_of(solve_xpbd_joint(prepared, bodies, i.inertia1, i.inertia2, h.dt()))
+    joint::solve_joint(
+        joint,
+        body1.rigid,
+        body2.rigid,
+        warm_value,
+        bodies,
+        i.inertia1,
+        i.inertia2,
+        h.dt(),
+    )
 }
 
 pub fn warm_start_joints(
@@ -111,8 +129,9 @@ pub fn warm_start_joints(
     state: &[f32],
     table: [TickBody; MAX_BODIES],
     start: [SolverBody; MAX_BODIES],
+    card_joints: [Joint; MAX_JOINTS],
 ) -> [SolverBody; MAX_BODIES]
-    requires { ⌜ SoundCard (now card) h × SoundState h (now state) × TickBodies (now card) (now state) (h .bodies) table × (start ≡ loaded (now card) h (now state)) ⌝ }
+    requires { ⌜ SoundCard (now card) h × SoundState h (now state) × TickBodies (now card) (now state) (h .bodies) table × (start ≡ loaded (now card) h (now state)) × CardJoints (now card) h «card_joints» ⌝ }
     ensures { λ r. ⌜ r ≡ warmStarted (now (card .entry)) h (now (state .entry)) ⌝ }
 {
     let count = h.bodies;
@@ -133,7 +152,8 @@ pub fn warm_start_joints(
             body1: bodies[first],
             body2: bodies[second],
         };
-        let warm = warm_start_joint(card, h, state, j, t1, t2, pair);
+        let joint = card_joints[j];
+        let warm = warm_start_joint(joint, h, state, j, t1, t2, pair);
         let b1 = moved(t1.index, bodies[first], warm.body1);
         bodies[first] = b1;
         let b2 = moved(t2.index, bodies[second], warm.body2);
@@ -150,8 +170,9 @@ pub fn solve_joints(
     state: &[f32],
     table: [TickBody; MAX_BODIES],
     pre_solve: [SolverBody; MAX_BODIES],
+    card_joints: [Joint; MAX_JOINTS],
 ) -> Solved
-    requires { ⌜ SoundCard (now card) h × SoundState h (now state) × TickBodies (now card) (now state) (h .bodies) table × («pre_solve» ≡ preSolve (now card) h (now state)) ⌝ }
+    requires { ⌜ SoundCard (now card) h × SoundState h (now state) × TickBodies (now card) (now state) (h .bodies) table × («pre_solve» ≡ preSolve (now card) h (now state)) × CardJoints (now card) h «card_joints» ⌝ }
     ensures { λ r. ⌜ r ≡ before (now (card .entry)) h (now (state .entry)) (h .joints) ⌝ }
 {
     let count = h.bodies;
@@ -169,7 +190,8 @@ pub fn solve_joints(
             body1: bodies[first],
             body2: bodies[second],
         };
-        let solved = solve_joint(card, h, state, j, t1, t2, pair);
+        let joint = card_joints[j];
+        let solved = solve_joint(joint, h, state, j, t1, t2, pair);
         if !solved.finite {
             return Solved {
                 stopped: true,

@@ -66,10 +66,10 @@ pub tick-accepted-spec : {M : Type 1} → statement M
 tick-accepted-spec =
     tie.close
     (tie.spec
-    (λ c κs. c .before .before .before .pre)
+    (λ c κs. (c .before .before .before .pre .0, c .before .before .before .pre .1))
     (λ c κs. (c .before .before .before .before .before .pre .0, c .before .before .before .before .before .pre .1, c .before .tick-bodies .ensures))
-    (λ c κs. let p = c .before .before .before .before .before .before .before .pre in (p .0, p .1, c .before .before .before .tick-bodies .ensures, c .before .start-bodies .ensures))
+    (λ c κs. let p = c .before .before .before .before .before .before .before .pre in (p .0, p .1, c .before .before .before .tick-bodies .ensures, c .before .start-bodies .ensures, p .2))
     (λ c κs. let p = c .before .before .before .before .before .before .before .before .before .pre in (p .0, c .before .before .before .before .before .tick-bodies .ensures, c .before .warm-start-joints .ensures))
-    (λ c κs. let p = c .before .before .before .before .before .before .before .before .before .before .before .pre in (p .0, p .1, c .before .before .before .before .before .before .before .tick-bodies .ensures, c .before .integrate-bodies .ensures))
+    (λ c κs. let p = c .before .before .before .before .before .before .before .before .before .before .before .pre in (p .0, p .1, c .before .before .before .before .before .before .before .tick-bodies .ensures, c .before .integrate-bodies .ensures, p .2))
     (λ c. search needs) returns finish-bodies-requires (λ c. search needs) returns-2 store-bodies-requires
     store-totals-requires (λ c. search needs) returns-3)

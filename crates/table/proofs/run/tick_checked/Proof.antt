@@ -8,7 +8,7 @@ tick-accepted-requires : tie.Need-tick-accepted-requires
 tick-accepted-requires c κs =
     let n = c .before .before in
     let a = c .before .before .before .before .before .before .before in
-    (a .pre, length-passed (a .args .h) (a .args .state .now) (sym (n .before .state-answer .ensures) ∙ sym (n .number .ensures) ∙ c .before .if1 .taken))
+    (a .pre .0, length-passed (a .args .h) (a .args .state .now) (sym (n .before .state-answer .ensures) ∙ sym (n .number .ensures) ∙ c .before .if1 .taken), a .pre .1)
 
 returns : tie.Need-returns
 returns c =
@@ -22,5 +22,5 @@ pub tick-checked-spec : {M : Type 1} → statement M
 tick-checked-spec =
     tie.close
     (tie.spec
-    (λ c κs. (c .before .before .before .pre .few-bodies, c .before .before .before .pre .few-joints))
+    (λ c κs. (c .before .before .before .pre .0 .few-bodies, c .before .before .before .pre .0 .few-joints))
     (λ c κs. search needs) tick-accepted-requires (λ c. search needs) returns (λ c. search needs) returns-2)

@@ -9,14 +9,12 @@ returns c =
     let c1 = c .before in
     let c2 = c1 .before in
     let c3 = c2 .before in
-    let c4 = c3 .before in
     simp (
-      c4 .prepare-joint .ensures,
-      c3 .dominated .ensures,
-      c2 .dt .ensures,
-      c1 .solve-xpbd-joint .ensures,
-      c .result-of .ensures,
+      c3 .warm-value-at .ensures,
+      c2 .dominated .ensures,
+      c1 .dt .ensures,
+      c .solve-joint .ensures,
     )
 
 pub solve-joint-spec : {M : Type 1} → statement M
-solve-joint-spec = tie.close (tie.spec (λ c κs. search needs) (λ _ _. tt) (λ c κs. search needs) (λ _ _. tt) (λ _ _. tt) returns)
+solve-joint-spec = tie.close (tie.spec (λ c κs. search needs) (λ _ _. tt) (λ c κs. search needs) (λ _ _. tt) returns)

@@ -11,11 +11,11 @@ use Rattle.table.proofs.solve.solve_joints.Statement.{statement}
 use Rattle.table.proofs.solve.solve_joints.Tie as tie
 
 abbrev Inv-loop : tie.InvT-loop
-Inv-loop card h state table count joints bodies₀ totals₀ j₀ bodies totals j =
+Inv-loop card h state table held count joints bodies₀ totals₀ j₀ bodies totals j =
     (j ≤ joints) × (length bodies ≡ maxBodies) × (live bodies totals ≡ before card h state j)
 
 abbrev μ-loop : tie.MeasureT-loop
-μ-loop card h state table count joints bodies₀ totals₀ j₀ bodies totals j = joints - j
+μ-loop card h state table held count joints bodies₀ totals₀ j₀ bodies totals j = joints - j
 
 abbrev start : tie.In-loop Inv-loop μ-loop → tie.Start Inv-loop μ-loop
 start k = k .before .before .before .before
@@ -38,22 +38,22 @@ loop-holds c =
 
 returns : tie.Need-returns Inv-loop μ-loop
 returns c =
-    let b = c .before .before .before .before .before .before .before in
+    let b = c .before .before .before .before .before .before .before .before in
     let k = b .before in
     let l = k .before .loop in
     let p = start k .pre in
-    solve-stop _ _ _ (p .0) _ (p .2) _ (k .loop-test .taken) _ (l .inv .1) _ (b .joint-bits .ensures) (l .inv .2) (c .before .before .solve-joint .ensures) (c .if1 .taken)
+    solve-stop _ _ _ (p .0) _ (p .2) _ (p .4) _ _ (k .loop-test .taken) _ (l .inv .1) _ (b .joint-bits .ensures) (l .inv .2) (c .before .before .solve-joint .ensures) (c .if1 .taken)
 
 loop-again : tie.Need-loop-again Inv-loop μ-loop
 loop-again c =
     let r = c .before .before .before .before .before .before .before in
-    let b = c .before .before .before .before .before .before .before .before .before .before .before .before in
+    let b = c .before .before .before .before .before .before .before .before .before .before .before .before .before in
     let k = b .before in
     let l = k .before .loop in
     let p = start k .pre in (
       omega (arith, l .inv .0, k .loop-test .taken),
       simp length-set (l .inv .1),
-      solve-more _ _ _ (p .0) _ (p .2) _ (k .loop-test .taken) _ (l .inv .1) (b .joint-bits .ensures) (r .solve-joint .result .bodies) (c .before .before .before .moved .ensures) (c .before .moved2 .ensures) _ (l .inv .2) (r .solve-joint .ensures) refl (c .before .before .before .before .before .if1 .left),
+      solve-more _ _ _ (p .0) _ (p .2) _ (p .4) _ _ (k .loop-test .taken) _ (l .inv .1) (b .joint-bits .ensures) (r .solve-joint .result .bodies) (c .before .before .before .moved .ensures) (c .before .moved2 .ensures) _ (l .inv .2) (r .solve-joint .ensures) refl (c .before .before .before .before .before .if1 .left),
     )
 
 returns-2 : tie.Need-returns-2 Inv-loop μ-loop
@@ -67,17 +67,18 @@ solve-joints-spec =
     (λ c. omega (arith, places c)) (λ c. omega (arith, places (c .before))) (λ c. omega (arith, places (c .before)))
     (λ c. omega (arith, places (c .before .before))) (λ c. omega (arith, places (c .before .before)))
     (λ c. omega (arith, places (c .before .before .before))) (λ c. omega (arith, places (c .before .before .before)))
-    (λ c κs. let k = c .before .before .before .before .before in (start k .pre .0, start k .pre .1, k .loop-test .taken))
-    returns (λ c. omega (arith, places (c .before .before .before .before .before .before .before)))
-    (λ c. omega (arith, places (c .before .before .before .before .before .before .before))) (λ _ _. tt)
-    (λ c. omega (arith, places (c .before .before .before .before .before .before .before .before .before)))
-    (λ c. omega (arith, places (c .before .before .before .before .before .before .before .before .before)))
-    (λ c. omega (arith, places (c .before .before .before .before .before .before .before .before .before)))
-    (λ c. omega (arith, places (c .before .before .before .before .before .before .before .before .before))) (λ _ _. tt)
-    (λ c. omega (arith, places (c .before .before .before .before .before .before .before .before .before .before .before)))
-    (λ c. omega (arith, places (c .before .before .before .before .before .before .before .before .before .before .before)))
-    (λ c. omega (arith, inside (c .before .before .before .before .before .before .before .before .before .before .before .before .before)))
-    (λ c. omega (arith, inside (c .before .before .before .before .before .before .before .before .before .before .before .before .before)))
-    (λ c. omega (arith, inside (c .before .before .before .before .before .before .before .before .before .before .before .before .before)))
-    (λ c. omega (arith, c .before .before .before .before .before .before .before .before .before .before .before .before .before .loop-test .taken))
+    (λ c. omega (arith, inside (c .before .before .before .before .before))) (λ c. omega (arith, inside (c .before .before .before .before .before)))
+    (λ c κs. let k = c .before .before .before .before .before .before in (start k .pre .0 .most-rate, start k .pre .1, k .loop-test .taken))
+    returns (λ c. omega (arith, places (c .before .before .before .before .before .before .before .before)))
+    (λ c. omega (arith, places (c .before .before .before .before .before .before .before .before))) (λ _ _. tt)
+    (λ c. omega (arith, places (c .before .before .before .before .before .before .before .before .before .before)))
+    (λ c. omega (arith, places (c .before .before .before .before .before .before .before .before .before .before)))
+    (λ c. omega (arith, places (c .before .before .before .before .before .before .before .before .before .before)))
+    (λ c. omega (arith, places (c .before .before .before .before .before .before .before .before .before .before))) (λ _ _. tt)
+    (λ c. omega (arith, places (c .before .before .before .before .before .before .before .before .before .before .before .before)))
+    (λ c. omega (arith, places (c .before .before .before .before .before .before .before .before .before .before .before .before)))
+    (λ c. omega (arith, inside (c .before .before .before .before .before .before .before .before .before .before .before .before .before .before)))
+    (λ c. omega (arith, inside (c .before .before .before .before .before .before .before .before .before .before .before .before .before .before)))
+    (λ c. omega (arith, inside (c .before .before .before .before .before .before .before .before .before .before .before .before .before .before)))
+    (λ c. omega (arith, c .before .before .before .before .before .before .before .before .before .before .before .before .before .before .loop-test .taken))
     loop-again returns-2)

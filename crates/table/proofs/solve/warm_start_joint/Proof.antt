@@ -9,12 +9,11 @@ unfolding warmStartedWith
 returns c =
     let c1 = c .before in
     let c2 = c1 .before in
-    let c3 = c2 .before in
     simp (
-      c3 .prepare-joint .ensures,
-      c2 .dominated .ensures,
-      c1 .warm-start-xpbd-motors .ensures,
+      c2 .warm-value-at .ensures,
+      c1 .dominated .ensures,
+      c .warm-start-joint .ensures,
     )
 
 pub warm-start-joint-spec : {M : Type 1} → statement M
-warm-start-joint-spec = tie.close (tie.spec (λ c κs. search needs) (λ c κs. omega arith) (λ c κs. omega arith) returns)
+warm-start-joint-spec = tie.close (tie.spec (λ c κs. search needs) (λ _ _. tt) (λ _ _. tt) returns)

@@ -4,18 +4,18 @@ use mathlib.Core.Path.{_≡_, sym, ap, _∙_}
 use lib.ListN.{length, length-set}
 use Rattle.card.specs.Layout.{maxBodies, maxJoints}
 use Rattle.table.specs.Loop.{after}
-use Rattle.table.specs.Tick.{loaded, warmStartNext, warmStarted}
+use Rattle.table.specs.Tick.{noJoint, loaded, warmStartNext, warmStarted}
 use Rattle.table.proofs.Loops.{after-none, after-turn, after-done}
 use Rattle.table.proofs.Turns.{ends, loaded-length, warm-turn, warm-skip}
 use Rattle.table.proofs.solve.warm_start_joints.Statement.{statement}
 use Rattle.table.proofs.solve.warm_start_joints.Tie as tie
 
 abbrev Inv-loop : tie.InvT-loop
-Inv-loop card h state table count joints bodies₀ j₀ bodies j =
+Inv-loop card h state table held count joints bodies₀ j₀ bodies j =
     (j ≤ joints) × (length bodies ≡ maxBodies) × (bodies ≡ after (warmStartNext card h state) (loaded card h state) j)
 
 abbrev μ-loop : tie.MeasureT-loop
-μ-loop card h state table count joints bodies₀ j₀ bodies j = joints - j
+μ-loop card h state table held count joints bodies₀ j₀ bodies j = joints - j
 
 abbrev start : tie.In-loop Inv-loop μ-loop → tie.Start Inv-loop μ-loop
 start k = k .before .before .before .before
@@ -40,19 +40,19 @@ loop-again c =
     let p = start k .pre in (
       omega (arith, l .inv .0, k .loop-test .taken),
       l .inv .1,
-      after-turn _ _ (l .inv .2) (warm-skip _ _ _ (p .0) _ (p .2) _ (k .loop-test .taken) _ (l .inv .1) (b .joint-bits .ensures) (c .if1 .taken)),
+      after-turn _ _ (l .inv .2) (warm-skip _ _ _ (p .0) _ (p .2) _ (p .4) noJoint _ (k .loop-test .taken) _ (l .inv .1) (b .joint-bits .ensures) (c .if1 .taken)),
     )
 
 loop-again-2 : tie.Need-loop-again-2 Inv-loop μ-loop
 loop-again-2 c =
     let w = c .before .before .before .before .warm-start-joint in
-    let b = c .before .before .before .before .before .before .before .before .before .before .before in
+    let b = c .before .before .before .before .before .before .before .before .before .before .before .before in
     let k = b .before in
     let l = k .before .loop in
     let p = start k .pre in (
       omega (arith, l .inv .0, k .loop-test .taken),
       simp length-set (l .inv .1),
-      after-turn _ _ (l .inv .2) (warm-turn _ _ _ (p .0) _ (p .2) _ (k .loop-test .taken) _ (l .inv .1) (b .joint-bits .ensures) (w .result) (c .before .before .moved .ensures) (c .moved2 .ensures) (w .ensures)),
+      after-turn _ _ (l .inv .2) (warm-turn _ _ _ (p .0) _ (p .2) _ (p .4) _ _ (k .loop-test .taken) _ (l .inv .1) (b .joint-bits .ensures) (w .result) (c .before .before .moved .ensures) (c .moved2 .ensures) (w .ensures)),
     )
 
 returns : tie.Need-returns Inv-loop μ-loop
@@ -72,15 +72,16 @@ warm-start-joints-spec =
     (λ c. omega (arith, places (c .before .before .before .before)))
     (λ c. omega (arith, places (c .before .before .before .before .before)))
     (λ c. omega (arith, places (c .before .before .before .before .before)))
-    (λ c κs. let k = c .before .before .before .before .before .before .before in (start k .pre .0, start k .pre .1, k .loop-test .taken))
-    (λ c. omega (arith, places (c .before .before .before .before .before .before .before)))
-    (λ c. omega (arith, places (c .before .before .before .before .before .before .before))) (λ _ _. tt)
-    (λ c. omega (arith, places (c .before .before .before .before .before .before .before .before .before)))
-    (λ c. omega (arith, places (c .before .before .before .before .before .before .before .before .before)))
-    (λ c. omega (arith, places (c .before .before .before .before .before .before .before .before .before)))
-    (λ c. omega (arith, places (c .before .before .before .before .before .before .before .before .before))) (λ _ _. tt)
-    (λ c. omega (arith, places (c .before .before .before .before .before .before .before .before .before .before .before)))
-    (λ c. omega (arith, places (c .before .before .before .before .before .before .before .before .before .before .before)))
-    (λ c. omega (arith, inside (c .before .before .before .before .before .before .before .before .before .before .before .before)))
-    (λ c. omega (arith, c .before .before .before .before .before .before .before .before .before .before .before .before .loop-test .taken))
+    (λ c. omega (arith, inside (c .before .before .before .before .before .before .before))) (λ c. omega (arith, inside (c .before .before .before .before .before .before .before)))
+    (λ c κs. let k = c .before .before .before .before .before .before .before .before in (start k .pre .0 .most-rate, start k .pre .1, k .loop-test .taken))
+    (λ c. omega (arith, places (c .before .before .before .before .before .before .before .before)))
+    (λ c. omega (arith, places (c .before .before .before .before .before .before .before .before))) (λ _ _. tt)
+    (λ c. omega (arith, places (c .before .before .before .before .before .before .before .before .before .before)))
+    (λ c. omega (arith, places (c .before .before .before .before .before .before .before .before .before .before)))
+    (λ c. omega (arith, places (c .before .before .before .before .before .before .before .before .before .before)))
+    (λ c. omega (arith, places (c .before .before .before .before .before .before .before .before .before .before))) (λ _ _. tt)
+    (λ c. omega (arith, places (c .before .before .before .before .before .before .before .before .before .before .before .before)))
+    (λ c. omega (arith, places (c .before .before .before .before .before .before .before .before .before .before .before .before)))
+    (λ c. omega (arith, inside (c .before .before .before .before .before .before .before .before .before .before .before .before .before)))
+    (λ c. omega (arith, c .before .before .before .before .before .before .before .before .before .before .before .before .before .loop-test .taken))
     loop-again-2 returns)
