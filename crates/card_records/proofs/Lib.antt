@@ -1,5 +1,6 @@
 pub mod Signed
 pub mod Writes
 pub mod Starting
+pub mod Faults
 pub mod Decoded
 pub mod StartState

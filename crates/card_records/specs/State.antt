@@ -1,5 +1,5 @@
 -- The state: 13 numbers for each body, then 12 for each joint; its start, and refusals 11 and 12. Document 01, 'The card' and 'Turned back'.
-use Prim.Native.Nat.{ℕ, zero, suc, _*_, _%_}
+use Prim.Native.Nat.{ℕ, zero, suc, _+_, _*_, _%_}
 use mathlib.Core.Bool.{Bool, not, _&&_}
 use mathlib.Core.List.{List, [], _∷_, _++_}
 use lib.ListN.{length, getD, replicate}
@@ -52,6 +52,10 @@ boundOf bodies n = if ltb n (bodyNumbers * bodies) && ltb (n % bodyNumbers) 3 th
 -- not finite, or over its bound in size
 unfoldable pub numberFault : ℕ → List Float → ℕ → Bool
 numberFault bodies s n = let m = boundOf bodies n in outside (getD s n nan) (neg m) m
+
+-- number at + k is not finite, or over m in size
+unfoldable pub overAt : List Float → ℕ → Float → ℕ → Bool
+overAt s at m k = outside (getD s (at + k) nan) (neg m) m
 
 abbrev pub stateChecks : ℕ → ℕ → List Float → List Refusal
 stateChecks bodies joints s =

@@ -8,7 +8,7 @@ ghost use Rattle.card.specs.Layout.{bodyPlace, bodyNumbers, maxBodies, maxJoint
 ghost use Rattle.card.specs.Loop.{anyTo};
 ghost use Rattle.scalar.specs.Arith.{f0};
 ghost use Rattle.card.specs.Answer.{numberOf};
-ghost use Rattle.card_records.specs.State.{numbers3, numbers4, numbersOf, startTo, boundOf, numberFault, stateFault, checkStateOf, answered, startAccepted, startOf};
+ghost use Rattle.card_records.specs.State.{numbers3, numbers4, numbersOf, startTo, overAt, numberFault, stateFault, checkStateOf, answered, startAccepted, startOf};
 use crate::body::body_at;
 use card::answer::Answer;
 use card::checks::check;
@@ -113,39 +113,33 @@ pub fn start(card: &[u8], state: &mut [f32]) -> Answer
     answer
 }
 
-fn bound_of(bodies: usize, n: usize) -> f32
-    requires { ⌜ bodies ≤ maxBodies ⌝ }
-    ensures { λ r. ⌜ r ≡ boundOf bodies n ⌝ }
+// Whether one of so many numbers from `at` on is not finite, or over m in size. It looks at all of them: a loop with no early return is vectorised.
+fn any_over(state: &[f32], at: usize, count: usize, m: f32) -> bool
+    requires { ⌜ at + count ≤ length (now state) ⌝ }
+    ensures { λ r. ⌜ r ≡ anyTo (overAt (now (state .entry)) at m) count ⌝ }
 {
-    if n < BODY_NUMBERS * bodies {
-        if n % BODY_NUMBERS < 3 {
-            return 4096.0;
-        }
-        return MAX;
+    let mut fault = false;
+    let mut k = 0;
+    while k < count {
+        fault = fault | outside(state[at + k], -m, m);
+        k += 1;
     }
-    MAX
+    fault
 }
 
-fn number_fault(bodies: usize, state: &[f32], n: usize) -> bool
-    requires { ⌜ (bodies ≤ maxBodies) × (n < length (now state)) ⌝ }
-    ensures { λ r. ⌜ r ≡ numberFault bodies (now (state .entry)) n ⌝ }
+fn any_number_fault(bodies: usize, state: &[f32]) -> bool
+    requires { ⌜ bodyNumbers * bodies ≤ length (now state) ⌝ }
+    ensures { λ r. ⌜ r ≡ anyTo (numberFault bodies (now (state .entry))) (length (now (state .entry))) ⌝ }
 {
-    let m = bound_of(bodies, n);
-    outside(state[n], -m, m)
-}
-
-fn any_number_fault(bodies: usize, state: &[f32], count: usize) -> bool
-    requires { ⌜ (bodies ≤ maxBodies) × (count ≤ length (now state)) ⌝ }
-    ensures { λ r. ⌜ r ≡ anyTo (numberFault bodies (now (state .entry))) count ⌝ }
-{
-    let mut n = 0;
-    while n < count {
-        if number_fault(bodies, state, n) {
-            return true;
-        }
-        n += 1;
+    let mut fault = false;
+    let mut i = 0;
+    while i < bodies {
+        let at = BODY_NUMBERS * i;
+        fault = fault | any_over(state, at, 3, 4096.0) | any_over(state, at + 3, 10, MAX);
+        i += 1;
     }
-    false
+    let at = BODY_NUMBERS * bodies;
+    fault | any_over(state, at, state.len() - at, MAX)
 }
 
 // Refusals 11 and 12, for a card with so many bodies and joints.
@@ -156,7 +150,7 @@ pub fn state_answer(bodies: usize, joints: usize, state: &[f32]) -> Answer
     if state.len() != BODY_NUMBERS * bodies + JOINT_NUMBERS * joints {
         return Answer::StateLength;
     }
-    if any_number_fault(bodies, state, state.len()) {
+    if any_number_fault(bodies, state) {
         return Answer::StateNumber;
     }
     Answer::Done

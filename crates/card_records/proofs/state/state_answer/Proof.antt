@@ -15,7 +15,6 @@ returns-2 c =
     let c2 = c1 .before in
     simp (
       eq-eqb _ _ (c2 .if1 .left),
-      c1 .any-number-fault .ensures,
       simp (c1 .any-number-fault .ensures) at (c .if2 .taken),
     )
 
@@ -26,7 +25,6 @@ returns-3 c =
     let c2 = c1 .before in
     simp (
       eq-eqb _ _ (c2 .if1 .left),
-      c1 .any-number-fault .ensures,
       simp (c1 .any-number-fault .ensures) at (c .if2 .left),
     )
 
