@@ -94,10 +94,10 @@ extern "C" {
     ) -> u32;
     fn linkage_project(i: *const f32, m: usize, o: *mut f32, n: usize) -> u32;
     fn linkage_dummy(o: *mut f32, n: usize) -> i16;
-    fn linkage_check(card: *const u8, n: usize) -> u32;
-    fn linkage_start(card: *const u8, n: usize, state: *mut f32, m: usize) -> u32;
-    fn linkage_tick(card: *const u8, n: usize, state: *mut f32, m: usize) -> u32;
-    fn linkage_run(card: *const u8, n: usize, state: *mut f32, m: usize, ticks: u32) -> u32;
+    pub fn linkage_check(card: *const u8, n: usize) -> u32;
+    pub fn linkage_start(card: *const u8, n: usize, state: *mut f32, m: usize) -> u32;
+    pub fn linkage_tick(card: *const u8, n: usize, state: *mut f32, m: usize) -> u32;
+    pub fn linkage_run(card: *const u8, n: usize, state: *mut f32, m: usize, ticks: u32) -> u32;
 }
 
 /// The table's calls of the Rattle.

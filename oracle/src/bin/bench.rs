@@ -1,15 +1,43 @@
-//! Nanoseconds a tick of the oracle and of the Rattle, on the same cards, by turns: `bench [ROUNDS]`. A round is 100 ticks from the start state, by
-//! single ticks and by one run; the figures are medians over the rounds.
+//! The cost of a tick of the oracle and of the Rattle, on the same cards, as tables in Markdown. A round is 100 ticks from the start state.
+//!
+//! - `bench time [ROUNDS]`: nanoseconds. Each round goes through all cards, and on each card both sides by turns.
+//! - `bench mixed`: what the mixed card has.
+//! - `bench instructions`: instructions, counted by valgrind's callgrind over `bench rounds`.
+//! - `bench rounds SIDE CALL CARD ROUNDS`: so many rounds of one side (`oracle`, `rattle`) by one call (`tick`, `run`), and nothing else that depends
+//!   on their number: the difference of one round and two is what a round takes.
 
-use oracle::card::{Body, Card, Joint, BALL, HINGE, SLIDE, TETHER};
+use oracle::card::{Body, Card, Joint, BALL, BODY_NUMBERS, HINGE, JOINT_NUMBERS, SLIDE, TETHER};
 use oracle::compare::{all_same, Table, ORACLE};
-use oracle::{host, table};
+use oracle::{host, math, table};
+use std::env;
+use std::process::Command;
 use std::time::Instant;
 
 const TICKS: u32 = 100;
+const KINDS: [&str; 5] = ["fixed", "hinge", "slide", "ball", "tether"];
+const SIDES: [&str; 2] = ["oracle", "rattle"];
+const CALLS: [&str; 2] = ["tick", "run"];
 
-/// Links a step apart along x, the first anchored: a chain of so many joints, closed to a loop where there is no body left.
-fn linkage(name: &str, joints: usize, kind: impl Fn(usize) -> u32) -> (String, Card) {
+fn side(name: &str) -> Table {
+    match name {
+        "oracle" => ORACLE,
+        "rattle" => host::table(),
+        _ => panic!("no side {name}"),
+    }
+}
+
+// -------------------------------------------------------------------------------------------------------------------------------- cards
+
+struct Case {
+    name: String,
+    card: Card,
+    bytes: Vec<u8>,
+    start: Vec<f32>,
+}
+
+/// Links a step apart along x, the first anchored: a chain of so many joints, closed to a loop where there is no body left. Each link turns a little at
+/// the start, so that the motion leaves the plane. Limits keep each joint within `reach`, and motors push past 0.0625.
+fn linkage(name: &str, joints: usize, reach: f32, kind: impl Fn(usize) -> u32) -> Case {
     let bodies = (joints + 1).min(32);
     let mut card = Card {
         edition: 1,
@@ -23,6 +51,10 @@ fn linkage(name: &str, joints: usize, kind: impl Fn(usize) -> u32) -> (String, C
     card.bodies[0] = Body::ANCHORED;
     for (i, body) in card.bodies.iter_mut().enumerate() {
         body.position = [i as f32, 0.0, 0.0];
+        if !body.anchored {
+            let way = [-1.0, 1.0][i % 2];
+            body.angular_velocity = [0.5 * way, 0.25, 0.25 * way];
+        }
     }
     for i in 0..joints {
         let (body1, body2) = (i % bodies, (i + 1) % bodies);
@@ -37,84 +69,311 @@ fn linkage(name: &str, joints: usize, kind: impl Fn(usize) -> u32) -> (String, C
         }
         if matches!(joint.kind, HINGE | SLIDE) {
             joint.limit1 = true;
-            joint.limit1_range = [-0.25, 0.25];
+            joint.limit1_range = [-reach, reach];
             joint.motor = 1;
             joint.motor_numbers = [0.0, 0.125, 100.0, 2.0, 1.0];
         }
         if joint.kind == BALL {
             joint.limit1 = true;
-            joint.limit1_range = [0.0, 0.25];
+            joint.limit1_range = [0.0, reach];
             joint.limit2 = true;
-            joint.limit2_range = [-0.125, 0.125];
+            joint.limit2_range = [-0.5 * reach, 0.5 * reach];
         }
         card.joints.push(joint);
     }
-    (format!("{name} {joints}"), card)
+    let bytes = card.encode();
+    let start = table::start_state(&card);
+    Case {
+        name: name.to_string(),
+        card,
+        bytes,
+        start,
+    }
 }
 
-/// Nanoseconds a tick by single ticks and by one run, and the state after.
-fn round(table: &Table, card: &[u8], start: &[f32]) -> ([f64; 2], Vec<f32>) {
-    let mut state = start.to_vec();
-    let begun = Instant::now();
-    for _ in 0..TICKS {
-        assert_eq!((table.tick)(card, &mut state), 0);
+/// The chains' limits but the tethers' are looked at and hardly met, so that every length does the same work for a joint. Those of the mixed card are met.
+fn case(name: &str) -> Case {
+    let (kind, joints) = name.split_once(' ').expect("a kind and a number of joints");
+    let joints = joints.parse().expect("a number of joints");
+    match KINDS.iter().position(|other| *other == kind) {
+        Some(kind) => linkage(name, joints, 0.5, |_| kind as u32),
+        None => linkage(name, joints, 0.0625, |i| i as u32 % 5),
     }
-    let ticked = begun.elapsed();
-    let mut again = start.to_vec();
-    let begun = Instant::now();
-    assert_eq!((table.run)(card, &mut again, TICKS), 0);
-    let ran = begun.elapsed();
-    assert!(all_same(&state, &again));
-    let each = [ticked, ran].map(|time| time.as_nanos() as f64 / TICKS as f64);
-    (each, state)
 }
+
+const MIXED: &str = "mixed 32";
+
+fn cases() -> Vec<Case> {
+    let chains = KINDS
+        .iter()
+        .flat_map(|kind| [1, 2, 4, 8, 16, 32].map(|joints| format!("{kind} {joints}")));
+    chains
+        .chain([MIXED.to_string()])
+        .map(|name| case(&name))
+        .collect()
+}
+
+fn length(v: [f32; 3]) -> f32 {
+    v.iter().map(|x| x * x).sum::<f32>().sqrt()
+}
+
+/// How far a joint's anchors are from where the joint wants them, in links.
+fn gap(joint: &Joint, state: &[f32]) -> f32 {
+    let body = |i: u32| &state[BODY_NUMBERS * i as usize..];
+    let turned = |i: u32, v| math::turn(body(i)[3..7].try_into().unwrap(), v);
+    let anchor1 = turned(joint.body1, joint.anchor1);
+    let anchor2 = turned(joint.body2, joint.anchor2);
+    let apart: [f32; 3] = std::array::from_fn(|i| {
+        body(joint.body1)[i] + anchor1[i] - body(joint.body2)[i] - anchor2[i]
+    });
+    match joint.kind {
+        TETHER => length(apart) - joint.limit1_range[1],
+        SLIDE => {
+            let axis = turned(joint.body1, joint.axis);
+            let along: f32 = apart.iter().zip(axis).map(|(x, y)| x * y).sum();
+            (along.abs() - joint.limit1_range[1])
+                .max(length(std::array::from_fn(|i| apart[i] - along * axis[i])))
+        }
+        _ => length(apart),
+    }
+}
+
+/// After a round the linkage still holds together, and nothing is faster than a fall of that time or two.
+fn assert_sensible(case: &Case) {
+    let mut state = case.start.clone();
+    assert_eq!(table::run(&case.bytes, &mut state, TICKS), 0);
+    let fall = 9.75 * TICKS as f32 * case.card.dt();
+    for (joint, i) in case.card.joints.iter().zip(0..) {
+        let gap = gap(joint, &state);
+        assert!(gap < 0.1, "{}: joint {i} is {gap} apart", case.name);
+    }
+    for numbers in state.chunks(BODY_NUMBERS).take(case.card.bodies.len()) {
+        let [velocity, turning] = [7, 10].map(|at| length(numbers[at..at + 3].try_into().unwrap()));
+        assert!(velocity < 2.0 * fall && turning < 2.0 * fall);
+    }
+}
+
+// --------------------------------------------------------------------------------------------------------------------------------- runs
+
+/// One round, in a state that is overwritten.
+fn round(table: &Table, call: &str, case: &Case, state: &mut [f32]) {
+    state.copy_from_slice(&case.start);
+    match call {
+        "tick" => {
+            for _ in 0..TICKS {
+                assert_eq!((table.tick)(&case.bytes, state), 0);
+            }
+        }
+        "run" => assert_eq!((table.run)(&case.bytes, state, TICKS), 0),
+        _ => panic!("no call {call}"),
+    }
+}
+
+/// The figures of a case, for each call those of the oracle and of the Rattle.
+type Figures = [[f64; 2]; 2];
 
 fn median(numbers: &mut [f64]) -> f64 {
     numbers.sort_by(f64::total_cmp);
     numbers[numbers.len() / 2]
 }
 
-fn main() {
-    let rounds = std::env::args()
-        .nth(1)
-        .map_or(101, |word| word.parse().expect("a number of rounds"));
-    let mut cards = Vec::new();
-    let kinds = ["fixed", "hinge", "slide", "ball", "tether"];
-    for (kind, name) in kinds.iter().enumerate() {
-        for joints in [1, 2, 4, 8, 16, 32] {
-            cards.push(linkage(name, joints, |_| kind as u32));
-        }
-    }
-    cards.push(linkage("mixed", 32, |i| i as u32 % 5));
-
-    println!("nanoseconds a tick, median of {rounds} rounds of {TICKS} ticks");
-    println!(
-        "{:12} {:>10} {:>10} {:>6}   {:>10} {:>10} {:>6}",
-        "", "tick", "", "", "run", "", ""
-    );
-    println!(
-        "{:12} {:>10} {:>10} {:>6}   {:>10} {:>10} {:>6}",
-        "card", "oracle", "rattle", "ratio", "oracle", "rattle", "ratio"
-    );
-    let rattle = host::table();
-    for (name, card) in cards {
-        let bytes = card.encode();
-        let start = table::start_state(&card);
-        // Oracle's tick and run, Rattle's tick and run.
-        let mut times = [(); 4].map(|_| Vec::with_capacity(rounds));
-        for _ in 0..rounds {
-            let ([tick, run], state) = round(&ORACLE, &bytes, &start);
-            let ([other_tick, other_run], other_state) = round(&rattle, &bytes, &start);
-            assert!(all_same(&state, &other_state), "{name}: the states differ");
-            for (list, time) in times.iter_mut().zip([tick, run, other_tick, other_run]) {
-                list.push(time);
+/// The median and the least of the times of each case.
+fn times(cases: &[Case], rounds: usize) -> Vec<(Figures, Figures)> {
+    let tables = SIDES.map(side);
+    let mut lists: Vec<[[Vec<f64>; 2]; 2]> = cases.iter().map(|_| Default::default()).collect();
+    for _ in 0..rounds {
+        for (case, lists) in cases.iter().zip(&mut lists) {
+            let mut states = [case.start.clone(), case.start.clone()];
+            for (call, lists) in CALLS.iter().zip(lists) {
+                for ((table, state), list) in tables.iter().zip(&mut states).zip(lists) {
+                    let begun = Instant::now();
+                    round(table, call, case, state);
+                    list.push(begun.elapsed().as_nanos() as f64 / TICKS as f64);
+                }
+                let [one, other] = &states;
+                assert!(all_same(one, other), "{}: the states differ", case.name);
             }
         }
-        let [tick, run, other_tick, other_run] = times.each_mut().map(|list| median(list));
-        println!(
-            "{name:12} {tick:10.0} {other_tick:10.0} {:6.2}   {run:10.0} {other_run:10.0} {:6.2}",
-            other_tick / tick,
-            other_run / run,
-        );
+    }
+    let both = |mut lists: [[Vec<f64>; 2]; 2]| {
+        let medians = lists
+            .each_mut()
+            .map(|list| list.each_mut().map(|list| median(list)));
+        // Sorted by now.
+        (medians, lists.map(|list| list.map(|list| list[0])))
+    };
+    lists.into_iter().map(both).collect()
+}
+
+/// What callgrind counts over some rounds.
+fn collected(side: &str, call: &str, name: &str, rounds: u32) -> f64 {
+    let output = Command::new("valgrind")
+        .args(["--tool=callgrind", "--callgrind-out-file=/dev/null"])
+        .arg(env::current_exe().unwrap())
+        .args(["rounds", side, call, name, &rounds.to_string()])
+        .output()
+        .expect("valgrind is installed");
+    let text = String::from_utf8_lossy(&output.stderr);
+    let found = text
+        .lines()
+        .find_map(|line| line.split_once("Collected : "));
+    match (output.status.success(), found) {
+        (true, Some((_, count))) => count.trim().parse().unwrap(),
+        _ => panic!("callgrind counts nothing:\n{text}"),
+    }
+}
+
+/// Instructions a tick of each case. Counts do not depend on the load, so both sides are counted at once.
+fn instructions(cases: &[Case]) -> Vec<Figures> {
+    let count = |side: &str, call: &str, case: &Case| {
+        let [one, two] = [1, 2].map(|rounds| collected(side, call, &case.name, rounds));
+        (two - one) / TICKS as f64
+    };
+    let of_side = |side| -> Vec<[f64; 2]> {
+        let of_case = |case| CALLS.map(|call| count(side, call, case));
+        cases.iter().map(of_case).collect()
+    };
+    let [oracle, rattle] = std::thread::scope(|scope| {
+        SIDES
+            .map(|side| scope.spawn(move || of_side(side)))
+            .map(|thread| thread.join().unwrap())
+    });
+    let by_call =
+        |(oracle, rattle): (&[f64; 2], &[f64; 2])| [0, 1].map(|call| [oracle[call], rattle[call]]);
+    oracle.iter().zip(&rattle).map(by_call).collect()
+}
+
+// ------------------------------------------------------------------------------------------------------------------------------- tables
+
+fn whole(x: f64) -> String {
+    format!("{x:.0}")
+}
+
+fn row(cells: &[String]) {
+    println!("| {} |", cells.join(" | "));
+}
+
+fn head(cells: &str) {
+    println!("| {cells} |");
+    println!("|---|{}", "---:|".repeat(cells.matches('|').count()));
+}
+
+/// What the Rattle takes for a joint in chains of 4 to 32, and how much the dearest length is over the cheapest. A line through the lengths 4 and 32 has a
+/// part for each joint and one for the tick.
+fn flatness(cases: &[Case], figures: &[Figures]) {
+    head("call, kind | 4 | 8 | 16 | 32 | spread | for each joint | for the tick");
+    let of = |name: String| figures[cases.iter().position(|case| case.name == name).unwrap()];
+    for (call, name) in CALLS.iter().enumerate() {
+        for kind in KINDS {
+            let each = [4, 8, 16, 32].map(|n| of(format!("{kind} {n}"))[call][1]);
+            let joint = [0, 1, 2, 3].map(|i| each[i] / [4.0, 8.0, 16.0, 32.0][i]);
+            let most = joint.iter().copied().fold(0.0, f64::max);
+            let least = joint.iter().copied().fold(f64::MAX, f64::min);
+            let slope = (each[3] - each[0]) / 28.0;
+            let mut cells = vec![format!("{name}, {kind}")];
+            cells.extend(joint.map(whole));
+            cells.push(format!("{:.0} %", 100.0 * (most / least - 1.0)));
+            cells.extend([slope, each[0] - 4.0 * slope].map(whole));
+            row(&cells);
+        }
+    }
+}
+
+fn print_times(rounds: usize) {
+    let cases = cases();
+    cases.iter().for_each(assert_sensible);
+    let times = times(&cases, rounds);
+    for (call, name) in CALLS.iter().enumerate() {
+        println!("Nanoseconds a tick by `{name}`, over {rounds} rounds:\n");
+        head("card | oracle, median | Rattle, median | ratio | oracle, least | Rattle, least | ratio | Rattle a joint, median");
+        for (case, (medians, least)) in cases.iter().zip(&times) {
+            let mut cells = vec![case.name.clone()];
+            for [oracle, rattle] in [medians[call], least[call]] {
+                cells.extend([
+                    whole(oracle),
+                    whole(rattle),
+                    format!("{:.2}", rattle / oracle),
+                ]);
+            }
+            cells.push(whole(medians[call][1] / case.card.joints.len() as f64));
+            row(&cells);
+        }
+        println!();
+    }
+    println!("Nanoseconds that the Rattle takes for a joint, by the least times:\n");
+    let least: Vec<_> = times.iter().map(|(_, least)| *least).collect();
+    flatness(&cases, &least);
+}
+
+fn print_instructions() {
+    let cases = cases();
+    let figures = instructions(&cases);
+    println!("Instructions a tick:\n");
+    head("card | oracle, tick | Rattle, tick | ratio | oracle, run | Rattle, run | ratio | Rattle a joint, run");
+    for (case, figures) in cases.iter().zip(&figures) {
+        let mut cells = vec![case.name.clone()];
+        for [oracle, rattle] in figures {
+            cells.extend([
+                whole(*oracle),
+                whole(*rattle),
+                format!("{:.2}", rattle / oracle),
+            ]);
+        }
+        cells.push(whole(figures[1][1] / case.card.joints.len() as f64));
+        row(&cells);
+    }
+    println!("\nInstructions that the Rattle takes for a joint:\n");
+    flatness(&cases, &figures);
+}
+
+/// What the mixed card has, and how often its limits act in a round: a hinge's third total and a ball's second and third are those of limits alone.
+fn print_mixed() {
+    let Case {
+        card, bytes, start, ..
+    } = case(MIXED);
+    let (bodies, joints) = (card.bodies.len(), card.joints.len());
+    assert_eq!((bodies, joints), (32, 32));
+    let count = |has: fn(&Joint) -> bool| card.joints.iter().filter(|joint| has(joint)).count();
+    let motors = count(|joint| joint.motor != 0);
+    let limits = count(|joint| joint.limit1) + count(|joint| joint.limit2);
+    let mut state = start;
+    let mut acts = [0; 2];
+    for _ in 0..TICKS {
+        assert_eq!(table::tick(&bytes, &mut state), 0);
+        let totals = state[BODY_NUMBERS * bodies..].chunks(JOINT_NUMBERS);
+        for (joint, totals) in card.joints.iter().zip(totals) {
+            let used = |place: usize| (totals[3 * place..3 * place + 3] != [0.0; 3]) as u32;
+            match joint.kind {
+                HINGE => acts[0] += used(2),
+                BALL => acts[1] += used(1) + used(2),
+                _ => {}
+            }
+        }
+    }
+    let [hinges, balls] = acts;
+    assert!(motors > 0 && limits > 0 && hinges > 0 && balls > 0);
+    println!(
+        "The mixed card has {bodies} bodies, {joints} joints, {motors} motors and {limits} limits. In a round the limits of its hinges act {hinges} times, \
+         those of its balls {balls} times."
+    );
+}
+
+fn main() {
+    let words: Vec<String> = env::args().skip(1).collect();
+    let words: Vec<&str> = words.iter().map(String::as_str).collect();
+    match words[..] {
+        ["time"] => print_times(101),
+        ["time", rounds] => print_times(rounds.parse().expect("a number of rounds")),
+        ["instructions"] => print_instructions(),
+        ["mixed"] => print_mixed(),
+        ["rounds", name, call, card, rounds] => {
+            let case = case(card);
+            let table = side(name);
+            let mut state = case.start.clone();
+            for _ in 0..rounds.parse().expect("a number of rounds") {
+                round(&table, call, &case, &mut state);
+            }
+        }
+        _ => panic!("bench time [ROUNDS] | instructions | mixed | rounds SIDE CALL CARD ROUNDS"),
     }
 }
