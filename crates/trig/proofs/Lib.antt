@@ -1,5 +1,6 @@
 pub mod InterpolatedSizes
 pub mod CarriedTable
+pub mod Rows
 pub mod CarriedNeighbours
 pub mod ScaledFloor
 pub mod WholeOverUnit

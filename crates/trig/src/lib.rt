@@ -16,8 +16,8 @@ mod tables;
 use scalar::PI;
 use scalar::abs;
 use scalar::is_finite;
-use tables::ARCTANGENT;
-use tables::SINE;
+use tables::arctangent_at;
+use tables::sine_at;
 
 const FRAC_PI_2: f32 = 1.5707964;
 
@@ -65,15 +65,13 @@ struct Sizes {
     falling: u32,
 }
 
-// All four entries in one call: the table is copied by each call that indexes it.
 fn quarter(i: usize, f: u64) -> Sizes
     requires { ⌜ (i < 1024) × (f < 65536) ⌝ }
     ensures { λ r. ⌜ QuarterAt i f (r .rising) (r .falling) ⌝ }
 {
-    let t = SINE;
     Sizes {
-        rising: interpolate(t[i], t[i + 1], f),
-        falling: interpolate(t[1024 - i], t[1023 - i], f),
+        rising: interpolate(sine_at(i), sine_at(i + 1), f),
+        falling: interpolate(sine_at(1024 - i), sine_at(1023 - i), f),
     }
 }
 
@@ -157,10 +155,9 @@ fn atan_at(k: u64) -> u32
 {
     if k < 16777216 {
         let i = (k / 16384) as usize;
-        let t = ARCTANGENT;
-        interpolate(t[i], t[i + 1], k % 16384 * 4)
+        interpolate(arctangent_at(i), arctangent_at(i + 1), k % 16384 * 4)
     } else {
-        ARCTANGENT[1024] / 64
+        arctangent_at(1024) / 64
     }
 }
 

@@ -1,4 +1,4 @@
--- The constant is the definition's list; a fraction over 2^14 is four times it over 2^16.
+-- A fraction over 2^14 is four times it over 2^16.
 use mathlib.Core.Path.{_≡_, sym, ap, _∙_}
 use Prim.Native.Nat.{ℕ, _+_, _*_, _/_, _%_, _≤_, _<_}
 use native.Mathlib.Nat.{mod-lt, le-of-lt}
@@ -17,8 +17,7 @@ use Rattle.trig.proofs.atan_at.Statement.{statement}
 use Rattle.trig.proofs.atan_at.Tie as tie
 
 interpolate-requires : tie.Need-interpolate-requires
-unfolding arcs
-interpolate-requires c κs = let k = c .before .args .k in (arc-small (k / 16384) (omega arith), arc-small (k / 16384 + 1) (omega arith), omega arith)
+interpolate-requires c κs = let k = c .before .before .before .args .k in omega (arith, arc-small (k / 16384) (omega arith), arc-small (k / 16384 + 1) (omega arith))
 
 -- 4 f over 2^16 is f over 2^14
 same-line : (t u f : ℕ) → f < 16384 → interpolated 65536 (pos t) (pos u) (f * 4) ≡ interpolated 16384 (pos t) (pos u) f
@@ -28,20 +27,19 @@ below : (k r : ℕ) → k < 16777216 → pos r ≡ interpolated 65536 (pos (getD
 unfolding atanAt
 below k r h e = rw (lt-ltb k 16777216 h) (e ∙ same-line (getD arcs (k / 16384) 0) (getD arcs (k / 16384 + 1) 0) (k % 16384) (mod-lt k (lit< tt)))
 
-top : (k : ℕ) → 16777216 ≤ k → pos 13176794 ≡ atanAt k
+top : (k t : ℕ) → 16777216 ≤ k → t ≡ getD arcs 1024 0 → pos (t / 64) ≡ atanAt k
 unfolding atanAt arcs
-top k h = rw (le-ltb k 16777216 h)
+top k t h e = rw (le-ltb k 16777216 h, e)
 
 returns : tie.Need-returns
-unfolding arcs
-returns c = (below (c .before .before .args .k) (c .interpolate .result) (omega arith) (c .interpolate .ensures .0), c .interpolate .ensures .1)
+returns c = (below (c .before .before .before .before .args .k) (c .interpolate .result) (omega arith) (cc), c .interpolate .ensures .1)
 
 returns-2 : tie.Need-returns-2
-returns-2 c = (top (c .before .args .k) (omega arith), lit≤ tt)
+returns-2 c = (top (c .before .before .args .k) (c .arctangent-at3 .result) (omega arith) (c .arctangent-at3 .ensures), omega (arith, arc-small 1024 (lit< tt)))
 
 pub atan-at-spec : {M : Type 1} → statement M
 atan-at-spec =
     tie.close
     (tie.spec
-    (λ c. search needs) (λ c. search needs) (λ c. search needs) (λ c. search needs) (λ c. search needs)
-    (λ c. search needs) interpolate-requires (λ c. search needs) returns returns-2)
+    (λ c. search needs) (λ c. search needs) (λ c. search needs) (λ c. search needs) interpolate-requires
+    (λ c. search needs) returns returns-2)

@@ -1,0 +1,10 @@
+-- What no arm took is past the row.
+use Rattle.trig.proofs.Rows.{at-least}
+use Rattle.trig.proofs.tables.past_row.Statement.{statement}
+use Rattle.trig.proofs.tables.past_row.Tie as tie
+
+returns : tie.Need-returns
+returns c = at-least 64 (c .args .i) (c .pre)
+
+pub past-row-spec : {M : Type 1} → statement M
+past-row-spec = tie.close (tie.spec returns)
