@@ -1,6 +1,5 @@
 pub mod InterpolatedSizes
 pub mod CarriedTable
-pub mod Rows
 pub mod CarriedNeighbours
 pub mod ScaledFloor
 pub mod WholeOverUnit

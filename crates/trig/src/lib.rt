@@ -10,14 +10,11 @@ ghost use Rattle.scalar.specs.Scalar.{absOf, isFinite};
 ghost use Rattle.trig.specs.Interpolation.{interpolated, signed, overUnit};
 ghost use Rattle.trig.specs.Sine.{sixteen, scaledOf, stepOf, fractionOf, tableSine, sinOf, cosOf, QuarterAt};
 ghost use Rattle.trig.specs.Arctangent.{atanAt, atanOf, Point, quadrantAngle, halfPlaneAngle, angleOf, atan2Of, asinOf};
-
-mod tables;
-
 use scalar::PI;
 use scalar::abs;
 use scalar::is_finite;
-use tables::arctangent_at;
-use tables::sine_at;
+use trig_tables::arctangent_at;
+use trig_tables::sine_at;
 
 const FRAC_PI_2: f32 = 1.5707964;
 

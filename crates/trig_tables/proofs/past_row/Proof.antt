@@ -1,7 +1,7 @@
 -- What no arm took is past the row.
-use Rattle.trig.proofs.Rows.{at-least}
-use Rattle.trig.proofs.tables.past_row.Statement.{statement}
-use Rattle.trig.proofs.tables.past_row.Tie as tie
+use Rattle.trig_tables.proofs.Rows.{at-least}
+use Rattle.trig_tables.proofs.past_row.Statement.{statement}
+use Rattle.trig_tables.proofs.past_row.Tie as tie
 
 returns : tie.Need-returns
 returns c = at-least 64 (c .args .i) (c .pre)

@@ -7,7 +7,7 @@ use native.Mathlib.Omega.{arith}
 use lib.Dec.{lit<}
 use lib.ListN.{length, getD, List·getD-append}
 use Rattle.series.specs.Tables.{sines, sineRow0, sineRow1, sineRow2, sineRow3, sineRow4, sineRow5, sineRow6, sineRow7, sineRow8, sineRow9, sineRow10, sineRow11, sineRow12, sineRow13, sineRow14, sineRow15, arcs, arcRow0, arcRow1, arcRow2, arcRow3, arcRow4, arcRow5, arcRow6, arcRow7, arcRow8, arcRow9, arcRow10, arcRow11, arcRow12, arcRow13, arcRow14, arcRow15}
-use Rattle.trig.specs.Rows.{NoneBelow}
+use Rattle.trig_tables.specs.Rows.{NoneBelow}
 
 -- a number that is none of those below n is at least n
 pub at-least : (n i : ℕ) → NoneBelow n i → n ≤ i

@@ -1,8 +1,8 @@
 -- A row's number is the table's.
 use borrow.Author.Needs.{needs}
-use Rattle.trig.proofs.Rows.{arc-row, arc-end}
-use Rattle.trig.proofs.tables.arctangent_at.Statement.{statement}
-use Rattle.trig.proofs.tables.arctangent_at.Tie as tie
+use Rattle.trig_tables.proofs.Rows.{arc-row, arc-end}
+use Rattle.trig_tables.proofs.arctangent_at.Statement.{statement}
+use Rattle.trig_tables.proofs.arctangent_at.Tie as tie
 
 returns-17 : tie.Need-returns-17
 returns-17 c = arc-end (c .before .args .i) (c .before .pre) (c .match .rest)
