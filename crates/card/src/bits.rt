@@ -40,7 +40,7 @@ pub fn bits32_at(card: &[u8], at: usize) -> u32
 pub fn nan_bits(w: u32) -> bool
     ensures { λ r. ⌜ r ≡ nanBits binary32 w ⌝ }
 {
-    w % 0x8000_0000 / 0x0080_0000 == 255 && w % 0x0080_0000 != 0
+    w % 0x8000_0000 > 0x7f80_0000
 }
 
 pub fn float_at(card: &[u8], at: usize) -> f32
