@@ -1,7 +1,7 @@
 pub mod Bools
 pub mod Floats
-pub mod Rows
 pub mod Loops
+pub mod Fieldwise
 pub mod Unused
 pub mod Checking
 pub mod Ranges

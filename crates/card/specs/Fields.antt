@@ -205,7 +205,7 @@ module _ {B : Type 0} where
   unusedBits b (bits width when ∷ fields) n = unusedBits b fields n || not (when b) && not (eqb (field width (bitsIn fields) n) 0)
   unusedBits b (floats count when range ∷ fields) n = unusedBits b fields n
 
-  abbrev floatFrom : B → List (Field B) → ℕ → ℕ → FloatUse
+  abbrev pub floatFrom : B → List (Field B) → ℕ → ℕ → FloatUse
   floatFrom b [] from n = record { used = false; range = Bounded }
   floatFrom b (bits width when ∷ fields) from n = floatFrom b fields from n
   floatFrom b (floats count when range ∷ fields) from n =

@@ -4,6 +4,7 @@ pub mod Loop
 pub mod Fields
 pub mod Records
 pub mod Checks
+pub mod FloatChecks
 pub mod Answer
 pub mod Accepted
 pub mod Agreement

@@ -5,28 +5,26 @@ ghost use lib.ListN.{length};
 ghost use Rattle.card.specs.Layout.{headerBytes, bodyBytes, jointBytes, bodyPlace, jointPlace, jointFloatCount};
 ghost use Rattle.card.specs.Loop.{anyTo};
 ghost use Rattle.card.specs.Answer.{numberOf};
-ghost use Rattle.card.specs.Checks.{countsFault, rateFault, bodyBitsFault, bitsFit, jointBitsFault, unusedSet, outOfRange, limitFault, offUnit, axisFault, rotationFault, basesFault, normsFault, pairFault, headerFault, bodyFault, jointFault, recordFault, checkOf};
+ghost use Rattle.card.specs.Checks.{countsFault, rateFault, bodyBitsFault, bitsFit, jointBitsFault, limitFault, offUnit, axisFault, rotationFault, basesFault, normsFault, pairFault, headerFault, bodyFault, jointFault, recordFault, checkOf};
 use crate::answer::Answer;
-use crate::bits::bits32_at;
 use crate::bits::float_at;
 use crate::bits::quat_at;
 use crate::bits::vec3_at;
-use crate::fields::Form;
 use crate::fields::JointKind;
 use crate::fields::kind_of;
 use crate::fields::outside;
+use crate::float_checks::FloatCheck;
+use crate::float_checks::body_floats_fault;
+use crate::float_checks::header_floats_fault;
+use crate::float_checks::joint_floats_fault;
 use crate::layout::AXIS;
 use crate::layout::BASIS1;
 use crate::layout::BASIS2;
 use crate::layout::BODY_BITS;
 use crate::layout::BODY_BYTES;
-use crate::layout::BODY_FLOATS;
-use crate::layout::HEADER_BITS;
 use crate::layout::HEADER_BYTES;
-use crate::layout::HEADER_FLOATS;
 use crate::layout::JOINT_BITS;
 use crate::layout::JOINT_BYTES;
-use crate::layout::JOINT_FLOATS;
 use crate::layout::LIMIT1;
 use crate::layout::LIMIT2;
 use crate::layout::MAX_BODIES;
@@ -118,52 +116,6 @@ fn joint_bits_fault(card: &[u8], bodies: usize, j: usize) -> bool
     !bits_fit(kind_of(b.kind), b)
 }
 
-fn unused_set(card: &[u8], form: Form, floats: usize, n: usize) -> bool
-    requires { ⌜ floats + 4 * n + 4 ≤ length (now card) ⌝ }
-    ensures { λ r. ⌜ r ≡ unusedSet (now (card .entry)) form floats n ⌝ }
-{
-    if form.float(n).used {
-        return false;
-    }
-    bits32_at(card, floats + 4 * n) != 0
-}
-
-fn any_unused_set(card: &[u8], form: Form, floats: usize, count: usize) -> bool
-    requires { ⌜ floats + 4 * count ≤ length (now card) ⌝ }
-    ensures { λ r. ⌜ r ≡ anyTo (unusedSet (now (card .entry)) form floats) count ⌝ }
-{
-    let mut n = 0;
-    while n < count {
-        if unused_set(card, form, floats, n) {
-            return true;
-        }
-        n += 1;
-    }
-    false
-}
-
-fn out_of_range(card: &[u8], form: Form, floats: usize, n: usize) -> bool
-    requires { ⌜ floats + 4 * n + 4 ≤ length (now card) ⌝ }
-    ensures { λ r. ⌜ r ≡ outOfRange (now (card .entry)) form floats n ⌝ }
-{
-    let range = form.float(n).range;
-    range.excludes(float_at(card, floats + 4 * n))
-}
-
-fn any_out_of_range(card: &[u8], form: Form, floats: usize, count: usize) -> bool
-    requires { ⌜ floats + 4 * count ≤ length (now card) ⌝ }
-    ensures { λ r. ⌜ r ≡ anyTo (outOfRange (now (card .entry)) form floats) count ⌝ }
-{
-    let mut n = 0;
-    while n < count {
-        if out_of_range(card, form, floats, n) {
-            return true;
-        }
-        n += 1;
-    }
-    false
-}
-
 // Whether the min at a place is above the max behind it.
 fn limit_fault(card: &[u8], at: usize) -> bool
     requires { ⌜ at + 8 ≤ length (now card) ⌝ }
@@ -242,7 +194,7 @@ fn header_fault(card: &[u8], k: RecordCheck) -> bool
 {
     match k {
         RecordCheck::Bits => header_at(card).zero != 0,
-        RecordCheck::Floats => any_out_of_range(card, Form::HeaderForm, HEADER_BITS, HEADER_FLOATS),
+        RecordCheck::Floats => header_floats_fault(card, FloatCheck::Outside),
         RecordCheck::Limits => false,
         RecordCheck::Norms => false,
         RecordCheck::Bodies => false,
@@ -259,20 +211,10 @@ fn body_fault(card: &[u8], k: RecordCheck, i: usize) -> bool
             if body_bits_fault(card, i) {
                 return true;
             }
-            any_unused_set(
-                card,
-                Form::BodyForm(body_bits(card, i)),
-                floats,
-                BODY_FLOATS,
-            )
+            body_floats_fault(card, FloatCheck::Unused, body_bits(card, i), floats)
         }
         RecordCheck::Floats => {
-            any_out_of_range(
-                card,
-                Form::BodyForm(body_bits(card, i)),
-                floats,
-                BODY_FLOATS,
-            )
+            body_floats_fault(card, FloatCheck::Outside, body_bits(card, i), floats)
         }
         RecordCheck::Limits => false,
         RecordCheck::Norms => rotation_fault(quat_at(card, floats + 4 * ROTATION)),
@@ -305,9 +247,9 @@ fn joint_fault(card: &[u8], bodies: usize, k: RecordCheck, j: usize) -> bool
             if joint_bits_fault(card, bodies, j) {
                 return true;
             }
-            any_unused_set(card, Form::JointForm(b), floats, JOINT_FLOATS)
+            joint_floats_fault(card, FloatCheck::Unused, b, floats)
         }
-        RecordCheck::Floats => any_out_of_range(card, Form::JointForm(b), floats, JOINT_FLOATS),
+        RecordCheck::Floats => joint_floats_fault(card, FloatCheck::Outside, b, floats),
         RecordCheck::Limits => {
             if limit_fault(card, floats + 4 * LIMIT1) {
                 return true;

@@ -1,6 +1,6 @@
-// Which fields of a record have use, and what a float may be.
+// What a kind of joint has, and what a float may be.
 ghost use mathlib.Core.Path.{_≡_};
-ghost use Rattle.card.specs.Fields.{knownKind, unknownKind, kindOf, allows, headerFields, bodyFields, jointFields, floatIn, floatOf, outside, outOf};
+ghost use Rattle.card.specs.Fields.{knownKind, unknownKind, kindOf, allows, outside, outOf};
 use crate::records::BodyBits;
 use crate::records::JointBits;
 use scalar::MAX;
@@ -111,94 +111,6 @@ pub enum Form {
     HeaderForm,
     BodyForm(BodyBits),
     JointForm(JointBits),
-}
-
-fn bounded(used: bool) -> FloatUse
-    ensures { λ r. ⌜ r ≡ record { used = used; range = Range.Bounded } ⌝ }
-{
-    FloatUse {
-        used,
-        range: Range::Bounded,
-    }
-}
-
-fn not_negative(used: bool) -> FloatUse
-    ensures { λ r. ⌜ r ≡ record { used = used; range = Range.NotNegative } ⌝ }
-{
-    FloatUse {
-        used,
-        range: Range::NotNegative,
-    }
-}
-
-fn header_float(n: usize) -> FloatUse
-    ensures { λ r. ⌜ r ≡ floatIn headerFields tt n ⌝ }
-{
-    match n {
-        // gravity
-        0 => bounded(true),
-        // warm coefficient
-        1 => not_negative(true),
-        2.. => bounded(false),
-    }
-}
-
-fn body_float(b: BodyBits, n: usize) -> FloatUse
-    ensures { λ r. ⌜ r ≡ floatIn bodyFields b n ⌝ }
-{
-    match n {
-        // position, rotation, centre of mass
-        0..=9 => bounded(true),
-        // linear and angular velocity
-        10..=15 => bounded(!b.anchored),
-        // inverse mass
-        16 => not_negative(!b.anchored),
-        // inverse inertia
-        17..=22 => bounded(!b.anchored),
-        23.. => bounded(false),
-    }
-}
-
-fn joint_float(b: JointBits, n: usize) -> FloatUse
-    ensures { λ r. ⌜ r ≡ floatIn jointFields b n ⌝ }
-{
-    let kind = kind_of(b.kind);
-    match n {
-        // anchors
-        0..=5 => bounded(true),
-        // bases
-        6..=13 => bounded(kind.bases),
-        // axis
-        14..=16 => bounded(kind.axis),
-        // compliances
-        17 => not_negative(0 < kind.compliances),
-        18 => not_negative(1 < kind.compliances),
-        19 => not_negative(2 < kind.compliances),
-        20 => not_negative(3 < kind.compliances),
-        // first and second limit
-        21..=22 => bounded(b.first),
-        23..=24 => bounded(b.second),
-        // motor: target velocity and position, cap, two model floats
-        25..=26 => bounded(b.motor != 0),
-        27 => FloatUse {
-            used: b.motor != 0,
-            range: Range::Cap,
-        },
-        28..=29 => bounded(b.motor != 0),
-        30.. => bounded(false),
-    }
-}
-
-impl Form {
-    pub fn float(self, n: usize) -> FloatUse
-        ensures { λ r. ⌜ r ≡ floatOf self n ⌝ }
-    {
-        match self {
-            Form::HeaderForm => header_float(n),
-            Form::BodyForm(b) => body_float(b, n),
-            Form::JointForm(b) => joint_float(b, n),
-        }
-    }
 }
 
 // Whether x is below low, above high, or a NaN.

@@ -1,5 +1,6 @@
 use borrow.Author.Needs.{needs}
 use Rattle.card.specs.Checks.{bodyFault}
+use Rattle.card.specs.FloatChecks.{floatsFault}
 use Rattle.card.proofs.checks.body_fault.Statement.{statement}
 use Rattle.card.proofs.checks.body_fault.Tie as tie
 
@@ -15,7 +16,7 @@ returns c =
     )
 
 returns-2 : tie.Need-returns-2
-unfolding bodyFault
+unfolding bodyFault floatsFault
 returns-2 c =
     let c1 = c .before in
     let c2 = c1 .before in
@@ -26,18 +27,18 @@ returns-2 c =
       c3 .body-bits-fault .ensures,
       simp (c3 .body-bits-fault .ensures) at (c2 .if1 .left),
       c1 .body-bits .ensures,
-      c .any-unused-set .ensures,
+      c .body-floats-fault .ensures,
     )
 
 returns-3 : tie.Need-returns-3
-unfolding bodyFault
+unfolding bodyFault floatsFault
 returns-3 c =
     let c1 = c .before in
     let c2 = c1 .before in
     simp (
       c2 .enum-told2 .given .1,
       c1 .body-bits2 .ensures,
-      c .any-out-of-range .ensures,
+      c .body-floats-fault2 .ensures,
     )
 
 returns-4 : tie.Need-returns-4

@@ -1,5 +1,6 @@
 use borrow.Author.Needs.{needs}
 use Rattle.card.specs.Checks.{headerFault}
+use Rattle.card.specs.FloatChecks.{floatsFault}
 use Rattle.card.proofs.Unused.{header-unused}
 use Rattle.card.proofs.checks.header_fault.Statement.{statement}
 use Rattle.card.proofs.checks.header_fault.Tie as tie
@@ -16,12 +17,12 @@ returns c =
     )
 
 returns-2 : tie.Need-returns-2
-unfolding headerFault
+unfolding headerFault floatsFault
 returns-2 c =
     let c1 = c .before in
     simp (
       c1 .enum-told2 .given .1,
-      c .any-out-of-range .ensures,
+      c .header-floats-fault .ensures,
     )
 
 returns-3 : tie.Need-returns-3

@@ -1,5 +1,6 @@
 use borrow.Author.Needs.{needs}
 use Rattle.card.specs.Checks.{jointFault}
+use Rattle.card.specs.FloatChecks.{floatsFault}
 use Rattle.card.proofs.checks.joint_fault.Statement.{statement}
 use Rattle.card.proofs.checks.joint_fault.Tie as tie
 
@@ -32,7 +33,7 @@ returns-2 c =
     )
 
 returns-3 : tie.Need-returns-3
-unfolding jointFault
+unfolding jointFault floatsFault
 returns-3 c =
     let c1 = c .before in
     let c2 = c1 .before in
@@ -44,11 +45,11 @@ returns-3 c =
       c3 .enum-told .given .1,
       c2 .joint-bits-fault .ensures,
       simp (c2 .joint-bits-fault .ensures) at (c1 .if1 .left),
-      c .any-unused-set .ensures,
+      c .joint-floats-fault .ensures,
     )
 
 returns-4 : tie.Need-returns-4
-unfolding jointFault
+unfolding jointFault floatsFault
 returns-4 c =
     let c1 = c .before in
     let c2 = c1 .before in
@@ -56,7 +57,7 @@ returns-4 c =
     simp (
       c3 .joint-bits .ensures,
       c1 .enum-told2 .given .1,
-      c .any-out-of-range .ensures,
+      c .joint-floats-fault2 .ensures,
     )
 
 returns-5 : tie.Need-returns-5
