@@ -62,6 +62,7 @@ pub const HINGE: u32 = 1;
 pub const SLIDE: u32 = 2;
 pub const BALL: u32 = 3;
 pub const TETHER: u32 = 4;
+pub const KINDS: [&str; 5] = ["fixed", "hinge", "slide", "ball", "tether"];
 
 impl Body {
     /// A moving body of unit mass and inertia at rest at the origin.
@@ -542,12 +543,29 @@ impl Joint {
 }
 
 #[cfg(test)]
+impl Card {
+    /// Document 01's example: one body, no joints, 16 ticks a second, an x velocity of 16.
+    pub fn example() -> Card {
+        Card {
+            edition: 1,
+            rate: 16,
+            zero: 0,
+            gravity: 0.0,
+            warm_coefficient: 0.0,
+            bodies: vec![Body {
+                linear_velocity: [16.0, 0.0, 0.0],
+                inv_mass: 0.0,
+                inv_inertia: [0.0; 6],
+                ..Body::UNIT
+            }],
+            joints: vec![],
+        }
+    }
+}
+
+#[cfg(test)]
 mod tests {
     use super::*;
-
-    fn next_up(x: f32) -> f32 {
-        f32::from_bits(x.to_bits() + 1)
-    }
 
     /// A moving and an anchored body, and one joint of the kind between them.
     fn pair(kind: u32) -> Card {
@@ -573,32 +591,15 @@ mod tests {
         assert_eq!(answer(&card), number, "{card:?}");
     }
 
-    fn example() -> Card {
-        Card {
-            edition: 1,
-            rate: 16,
-            zero: 0,
-            gravity: 0.0,
-            warm_coefficient: 0.0,
-            bodies: vec![Body {
-                linear_velocity: [16.0, 0.0, 0.0],
-                inv_mass: 0.0,
-                inv_inertia: [0.0; 6],
-                ..Body::UNIT
-            }],
-            joints: vec![],
-        }
-    }
-
     #[test]
     fn the_documents_card() {
-        let bytes = example().encode();
+        let bytes = Card::example().encode();
         assert_eq!(bytes.len(), 106);
         assert!(check(&bytes).is_ok());
         assert_eq!(check(&bytes[..105]).err(), Some(5));
         let slow = Card {
             rate: 15,
-            ..example()
+            ..Card::example()
         };
         assert_eq!(answer(&slow), 4);
     }
@@ -618,7 +619,7 @@ mod tests {
 
     #[test]
     fn header() {
-        let bytes = example().encode();
+        let bytes = Card::example().encode();
         assert_eq!(check(&[]).err(), Some(1));
         assert_eq!(check(&bytes[..11]).err(), Some(1));
         assert_eq!(check(&bytes[..12]).err(), Some(5));
@@ -632,11 +633,11 @@ mod tests {
             expect(BALL, number, |card| card.zero = zero);
         }
         for (count, number) in [(1, 0), (32, 0), (33, 3), (63, 3)] {
-            let mut card = example();
+            let mut card = Card::example();
             card.bodies = vec![Body::UNIT; count];
             assert_eq!(answer(&card), number);
         }
-        let mut card = example();
+        let mut card = Card::example();
         card.bodies.clear();
         assert_eq!(answer(&card), 3);
         for (count, number) in [(32, 0), (33, 3)] {
@@ -725,8 +726,8 @@ mod tests {
         let cases = [
             (1024.0, 0),
             (-1024.0, 0),
-            (next_up(1024.0), 7),
-            (-next_up(1024.0), 7),
+            (1024f32.next_up(), 7),
+            (-1024f32.next_up(), 7),
             (f32::INFINITY, 7),
             (f32::NAN, 7),
             (-0.0, 0),
@@ -763,7 +764,7 @@ mod tests {
             (-f32::from_bits(1), 7),
             (-1.0, 7),
             (1024.0, 0),
-            (next_up(1024.0), 7),
+            (1024f32.next_up(), 7),
         ];
         for (number, refusal) in not_negative {
             expect(BALL, refusal, |card| card.warm_coefficient = number);
@@ -781,7 +782,7 @@ mod tests {
             (-0.0, 0),
             (-f32::from_bits(1), 7),
             (f32::MAX, 0),
-            (next_up(1024.0), 0),
+            (1024f32.next_up(), 0),
             (f32::INFINITY, 7),
             (f32::NAN, 7),
         ];
@@ -799,8 +800,8 @@ mod tests {
     fn limits_in_order() {
         for (range, number) in [
             ([1.0, 1.0], 0),
-            ([1.0, next_up(1.0)], 0),
-            ([next_up(1.0), 1.0], 8),
+            ([1.0, 1f32.next_up()], 0),
+            ([1f32.next_up(), 1.0], 8),
             ([0.0, -0.0], 0),
         ] {
             for kind in [HINGE, SLIDE, BALL, TETHER] {
@@ -901,8 +902,8 @@ mod tests {
                 (f32::NEG_INFINITY, true),
                 (4096.0, false),
                 (-4096.0, false),
-                (next_up(4096.0), position),
-                (-next_up(4096.0), position),
+                (4096f32.next_up(), position),
+                (-4096f32.next_up(), position),
                 (f32::MAX, position),
             ] {
                 let mut state = state.clone();

@@ -71,18 +71,6 @@ fn array<const N: usize>(numbers: &[f32]) -> [f32; N] {
     numbers.try_into().unwrap()
 }
 
-fn add(a: [f32; 3], b: [f32; 3]) -> [f32; 3] {
-    [a[0] + b[0], a[1] + b[1], a[2] + b[2]]
-}
-
-fn sub(a: [f32; 3], b: [f32; 3]) -> [f32; 3] {
-    [a[0] - b[0], a[1] - b[1], a[2] - b[2]]
-}
-
-fn scaled(v: [f32; 3], k: f32) -> [f32; 3] {
-    v.map(|number| number * k)
-}
-
 fn motion_finite(motion: &Motion) -> bool {
     motion
         .linear_velocity
@@ -179,8 +167,8 @@ pub fn step(card: &Card, state: &mut [f32]) -> Result<(), u32> {
                 *velocity = 0.0;
             }
         }
-        motion.delta_position = scaled(motion.linear_velocity, dt);
-        motion.delta_rotation = math::from_scaled_axis(scaled(motion.angular_velocity, dt));
+        motion.delta_position = math::scale(motion.linear_velocity, dt);
+        motion.delta_rotation = math::from_scaled_axis(math::scale(motion.angular_velocity, dt));
     }
     let before_solve = motions.clone();
 
@@ -196,17 +184,7 @@ pub fn step(card: &Card, state: &mut [f32]) -> Result<(), u32> {
             inertia2,
             dt,
         );
-        let numbers_finite = prepared[i]
-            .numbers()
-            .iter()
-            .all(|number| number.is_finite());
-        let totals_finite = prepared[i]
-            .totals()
-            .iter()
-            .flatten()
-            .all(|number| number.is_finite());
-        if !(numbers_finite && totals_finite && motion_finite(&motion1) && motion_finite(&motion2))
-        {
+        if !(prepared[i].is_finite() && motion_finite(&motion1) && motion_finite(&motion2)) {
             return Err(13);
         }
         keep(card, &mut motions, body1, motion1);
@@ -228,12 +206,11 @@ pub fn step(card: &Card, state: &mut [f32]) -> Result<(), u32> {
         );
         let pose = &poses[i];
         let product = math::product(motion.delta_rotation, pose.rotation);
-        let [x, y, z, w] = product;
-        let length = math::sqrt(x * x + y * y + z * z + w * w);
+        let length = math::rotation_length(product);
         let rotation = product.map(|number| number / length);
         let center = math::turn(pose.rotation, pose.center_of_mass);
-        let moved = add(add(pose.position, center), motion.delta_position);
-        let position = sub(moved, math::turn(rotation, pose.center_of_mass));
+        let moved = math::add(math::add(pose.position, center), motion.delta_position);
+        let position = math::sub(moved, math::turn(rotation, pose.center_of_mass));
         if !card::position_in_range(&position) {
             return Err(13);
         }
@@ -300,23 +277,6 @@ mod tests {
     use super::*;
     use crate::card::{Body, Joint};
 
-    fn example() -> Card {
-        Card {
-            edition: 1,
-            rate: 16,
-            zero: 0,
-            gravity: 0.0,
-            warm_coefficient: 0.0,
-            bodies: vec![Body {
-                linear_velocity: [16.0, 0.0, 0.0],
-                inv_mass: 0.0,
-                inv_inertia: [0.0; 6],
-                ..Body::UNIT
-            }],
-            joints: vec![],
-        }
-    }
-
     fn output(input: &[u8]) -> String {
         let mut output = Vec::new();
         program(input, &mut output).unwrap();
@@ -332,10 +292,10 @@ mod tests {
     #[test]
     fn the_documents_line() {
         assert_eq!(
-            of(1, &example()),
+            of(1, &Card::example()),
             "1 0 3f800000 00000000 00000000 00000000 00000000 00000000 3f800000\n"
         );
-        assert_eq!(of(0, &example()), "");
+        assert_eq!(of(0, &Card::example()), "");
     }
 
     #[test]
@@ -348,18 +308,18 @@ mod tests {
                 0,
                 &Card {
                     edition: 2,
-                    ..example()
+                    ..Card::example()
                 }
             ),
             "refused 2\n"
         );
-        assert_eq!(of(258, &example()).lines().count(), 258);
+        assert_eq!(of(258, &Card::example()).lines().count(), 258);
     }
 
     #[test]
     fn a_refused_tick_prints_only_the_refusal() {
         // At 16 a tick of 1/16 moves 1: from 1,024 the 3,073rd passes 4,096.
-        let mut card = example();
+        let mut card = Card::example();
         card.bodies[0].position[0] = 1024.0;
         let text = of(4000, &card);
         assert_eq!(text.lines().count(), 3073);
@@ -375,7 +335,7 @@ mod tests {
 
     #[test]
     fn refusals_leave_the_state() {
-        let card = example();
+        let card = Card::example();
         let bytes = card.encode();
         for refused in [&bytes[..105], &[], &bytes[1..]] {
             let mut state = vec![7.0; 13];
@@ -393,7 +353,7 @@ mod tests {
 
     #[test]
     fn gravity_and_locks() {
-        let mut card = example();
+        let mut card = Card::example();
         card.gravity = -16.0;
         card.bodies.push(Body {
             locks: [true, false, false],
@@ -412,7 +372,7 @@ mod tests {
     #[test]
     fn a_pendulum_keeps_its_anchor() {
         for kind in 0..5 {
-            let mut card = example();
+            let mut card = Card::example();
             card.rate = 64;
             card.gravity = -9.75;
             card.bodies = vec![Body::UNIT, Body::ANCHORED];

@@ -6,7 +6,9 @@
 //! - `bench rounds SIDE CALL CARD ROUNDS`: so many rounds of one side (`oracle`, `rattle`) by one call (`tick`, `run`), and nothing else that depends
 //!   on their number: the difference of one round and two is what a round takes.
 
-use oracle::card::{Body, Card, Joint, BALL, BODY_NUMBERS, HINGE, JOINT_NUMBERS, SLIDE, TETHER};
+use oracle::card::{
+    Body, Card, Joint, BALL, BODY_NUMBERS, HINGE, JOINT_NUMBERS, KINDS, SLIDE, TETHER,
+};
 use oracle::compare::{all_same, Table, ORACLE};
 use oracle::{host, math, table};
 use std::env;
@@ -14,7 +16,6 @@ use std::process::Command;
 use std::time::Instant;
 
 const TICKS: u32 = 100;
-const KINDS: [&str; 5] = ["fixed", "hinge", "slide", "ball", "tether"];
 const SIDES: [&str; 2] = ["oracle", "rattle"];
 const CALLS: [&str; 2] = ["tick", "run"];
 

@@ -4,7 +4,7 @@
 //! first and as f32s.
 
 use super::{all_same, in_hex, number_bytes, shrink, Difference, Hits};
-use crate::card::{BALL, HINGE, SLIDE, TETHER};
+use crate::card::{BALL, HINGE, KINDS, SLIDE, TETHER};
 use crate::generate::{joint_case, motion_numbers, ordered, JointCase, Random};
 use crate::math;
 use crate::parts;
@@ -288,10 +288,6 @@ fn arc_sine() -> Leaf {
     }
 }
 
-fn max_element(v: [f32; 3]) -> f32 {
-    v[0].max(v[1]).max(v[2])
-}
-
 const MAX_ELEMENT: usize = 27;
 
 fn vectors() -> Leaf {
@@ -336,7 +332,7 @@ fn vectors() -> Leaf {
             y.extend(math::neg(a));
             y.push(math::dot(a, a));
             y.push(math::length(a));
-            y.push(max_element(a));
+            y.push(math::max_element(a));
             y.extend(math::any_orthonormal(a));
             y.extend(math::any_orthogonal(a));
             y
@@ -344,7 +340,7 @@ fn vectors() -> Leaf {
         // The largest is only taken of inverse masses: of a NaN, or of zeros of both signs, it is left open.
         open: |x| {
             let a = v3(x, 0);
-            let zeros = max_element(a) == 0.0;
+            let zeros = math::max_element(a) == 0.0;
             match zeros || a.iter().any(|x| x.is_nan()) {
                 true => vec![MAX_ELEMENT],
                 false => Vec::new(),
@@ -698,7 +694,7 @@ fn weights() -> Leaf {
         oracle: |x| {
             let body = inertia(x, 1, x[0], 0.0);
             let (r, n) = (v3(x, 8), v3(x, 11));
-            let largest = max_element(parts::effective_inv_mass(&body));
+            let largest = math::max_element(parts::effective_inv_mass(&body));
             let mut y = vec![
                 parts::positional_inverse_mass(largest, body.inv_inertia, r, n),
                 parts::positional_inverse_mass(body.inv_mass, body.inv_inertia, r, n),
@@ -1032,8 +1028,6 @@ fn joint_answer(case: &JointCase) -> Vec<f32> {
     answer.extend(motion_numbers(&body2));
     answer
 }
-
-const KINDS: [&str; 5] = ["fixed", "hinge", "slide", "ball", "tether"];
 
 /// What a case reaches is seen by what becomes of the answer when a part is taken away.
 fn joint_classes(x: &[f32], y: &[f32], hits: &mut Hits) {

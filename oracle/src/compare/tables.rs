@@ -1,7 +1,7 @@
 //! Cards, runs and states: both tables' check, start, tick and run on the same bytes and numbers.
 
 use super::{all_same, in_hex, number_bytes, shrink, Difference, Hits, Table};
-use crate::card::{self, Card, BODY_NUMBERS, JOINT_NUMBERS};
+use crate::card::{self, Card, BODY_NUMBERS, JOINT_NUMBERS, KINDS};
 use crate::generate::{self, Random};
 use crate::table;
 
@@ -273,8 +273,6 @@ impl Tables {
         Ok(count)
     }
 }
-
-const KINDS: [&str; 5] = ["fixed", "hinge", "slide", "ball", "tether"];
 
 /// Which totals a tick left: limits that were hit, motors that pushed.
 fn note_state(card: &Card, state: &[f32], hits: &mut Hits) {
