@@ -1,7 +1,8 @@
 /* The linkage table's calls for C: link target/staticlib/libhost.a, which `rt staticlib host` makes, and -lm.
  *
  * A card is any bytes. A state has 13 floats for each of the card's bodies (position, rotation x y z w, linear and angular velocity) and then 12 for each
- * of its joints; another length is refused by 11. Each call answers 0, or the number of document 01's refusal, and then the state is as it was.
+ * of its joints; another length is refused by 11. Each call answers 0, or the number of document 01's refusal, and then the state is as it was; linkage_run
+ * leaves the state that the ticks before the refused one made.
  */
 #ifndef LINKAGE_H
 #define LINKAGE_H

@@ -1,8 +1,8 @@
 //! Compares the Rattle with the oracle: `compare [--seed S] [--count N] [leaves] [joints] [cards] [runs] [states] [every]`.
 //!
-//! Without a word it compares all but `every`, which goes through every f32 of the functions of one number. The count is of inputs to each leaf, of
-//! joints, of damaged cards, of runs and of states. At a difference it writes the smallest input that it finds to target/differences; it fails at a
-//! difference, and where a class of inputs that it looks for never came up.
+//! Without a word it compares all but `every`, which goes through all 2^32 inputs of root, sine, cosine and arc sine, and every slope of the
+//! arctangent. The count is of inputs to each leaf, of joints, of damaged cards, of runs and of states. At a difference it writes the smallest input
+//! that it finds to target/differences; it fails at a difference, and where a class of inputs that it looks for never came up.
 
 use oracle::compare::leaves::{any_joint, every, leaves, Leaf};
 use oracle::compare::{Difference, Hits};
