@@ -1,4 +1,4 @@
-// A joint that keeps two points at a distance within limits.
+// A joint that keeps two points at a distance within limits (not among avian's published files: the fields that its solver reads).
 use crate::DistanceLimit;
 use vector::Vec3;
 

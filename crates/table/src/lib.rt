@@ -1,4 +1,4 @@
-// Ticks of a card: the public calls.
+// Ticks of a card: the public calls `tick` and `run`.
 pub mod load;
 pub mod run;
 pub mod solve;

@@ -140,6 +140,7 @@ pub fn warm_start_joints(
     let mut j = 0;
     while j < joints {
         let bits = joint_bits(card, count, j);
+        // A joint without a motor has nothing to warm.
         if bits.motor == 0 {
             j += 1;
             continue;

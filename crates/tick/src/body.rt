@@ -59,7 +59,7 @@ impl BodyState {
         }
     }
 
-    // Whether a number is not finite, or a coordinate is over 4,096 in size.
+    // Whether a number is not finite, or a coordinate is over 4,096 in size. The tests are joined as in finite.rt.
     pub fn fault(self) -> bool
         ensures { λ r. ⌜ r ≡ bodyFault self ⌝ }
     {

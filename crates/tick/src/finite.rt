@@ -1,4 +1,5 @@
 // Whether numbers are finite: a vector's, a rotation's, a body's.
+// Tests are joined by `&` and not by `&&`: a proof has no cases then, and where all numbers are finite each is looked at anyway.
 ghost use mathlib.Core.Path.{_≡_};
 ghost use Rattle.tick.specs.Finite.{finite3, finite4, bodyFinite};
 use scalar::is_finite;

@@ -111,6 +111,7 @@ linearMotorStage m b i₁ i₂ arm₁ arm₂ d axis total motor h =
     let q₁ = b .body1 .«delta_rotation» in
     drivenAlong (linearMotorGiven m b i₁ i₂ arm₁ arm₂ d axis h) b i₁ i₂ (turnOf q₁ arm₁) (turnOf (b .body2 .«delta_rotation») arm₂) (turnOf q₁ axis) total motor
 
+-- the sum begins at zero, which makes a -0 of the correction +0
 unfoldable pub freeAxisCorrection : DistanceLimitOption → Vec3 → Vec3 → Vec3
 freeAxisCorrection Unlimited s a = origin
 freeAxisCorrection (Limited l) s a = addOf origin (axisCorrection l s a)

@@ -274,6 +274,7 @@ fn apply_motor(
     )
 }
 
+// The sum begins at zero, which makes a -0 of the correction +0.
 fn free_axis_correction(limits: DistanceLimitOption, separation: Vec3, axis1: Vec3) -> Vec3
     ensures { λ v. ⌜ v ≡ freeAxisCorrection limits separation axis1 ⌝ }
 {
