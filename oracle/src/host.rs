@@ -1,6 +1,6 @@
-//! The Rattle's own calls, by the static library of the crate `host`. What each takes and gives is said there.
+//! The Rattle's own calls, by the static libraries of the crates `host` and `host_parts`. What each takes and gives is said there.
 
-#[link(name = "host", kind = "static")]
+#[link(name = "host_parts", kind = "static")]
 extern "C" {
     fn linkage_abs(x: f32) -> f32;
     fn linkage_is_sign_negative(x: f32) -> bool;
@@ -94,6 +94,10 @@ extern "C" {
     ) -> u32;
     fn linkage_project(i: *const f32, m: usize, o: *mut f32, n: usize) -> u32;
     fn linkage_dummy(o: *mut f32, n: usize) -> i16;
+}
+
+#[link(name = "host", kind = "static")]
+extern "C" {
     pub fn linkage_check(card: *const u8, n: usize) -> u32;
     pub fn linkage_start(card: *const u8, n: usize, state: *mut f32, m: usize) -> u32;
     pub fn linkage_tick(card: *const u8, n: usize, state: *mut f32, m: usize) -> u32;
@@ -199,7 +203,7 @@ pub fn answer(name: &str, x: &[f32]) -> Vec<f32> {
                 output
             }
             "joints" => joint(x),
-            _ => panic!("host has no {name}"),
+            _ => panic!("host_parts has no {name}"),
         }
     }
 }

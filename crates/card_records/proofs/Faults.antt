@@ -1,10 +1,10 @@
 -- The search for a number of the state over its bound, in parts that have one bound each.
-use Prim.Native.Nat.{ℕ, zero, suc, _+_, _*_, _%_, _<_}
-use native.Mathlib.Nat.{add-zero, add-suc, add-assoc, mod-eq-of-lt, mul-add-mod-self-left}
+use Prim.Native.Nat.{ℕ, _+_, _*_, _%_, _<_}
+use native.Mathlib.Nat.{add-assoc, mod-eq-of-lt, mul-add-mod-self-left}
 use native.Mathlib.Numerals.{add-one}
 use native.Mathlib.Omega.{arith}
 use mathlib.Core.Path.{_≡_, _∙_}
-use mathlib.Core.Bool.{Bool, _||_, and-false, or-false, or-assoc}
+use mathlib.Core.Bool.{Bool, _||_, and-false}
 use mathlib.Core.List.{List}
 use lib.ListN.{length}
 use lib.Ieee.{Float}
@@ -12,18 +12,12 @@ use borrow.Author.Tests.{le-ltb, lt-ltb}
 use Rattle.scalar.specs.Arith.{largest}
 use Rattle.card.specs.Layout.{bodyNumbers}
 use Rattle.card.specs.Loop.{anyTo}
+use Rattle.card.proofs.Loops.{any-parts}
 use Rattle.card_records.specs.State.{positionBound, boundOf, numberFault, overAt}
 
 pub any-next : (p : ℕ → Bool) (n : ℕ) → anyTo p (n + 1) ≡ (anyTo p n || p n)
 unfolding anyTo
 any-next p n = rw add-one
-
--- q is p from m on
-any-parts : (p q : ℕ → Bool) (m n : ℕ) → ((k : ℕ) → k < n → p (m + k) ≡ q k) → anyTo p (m + n) ≡ (anyTo p m || anyTo q n)
-unfolding anyTo
-any-parts p q m zero same = rw (add-zero, or-false)
-any-parts p q m (suc n) same =
-    rw (add-suc, any-parts p q m n (λ k h. same k (omega arith)), same n (omega arith)) (or-assoc (anyTo p m) (anyTo q n) (q n))
 
 place : (i k : ℕ) → k < bodyNumbers → (bodyNumbers * i + k) % bodyNumbers ≡ k
 place i k h = mul-add-mod-self-left bodyNumbers i k ∙ mod-eq-of-lt h
