@@ -25,6 +25,7 @@ use Rattle.xpbd_plugin.specs.Joint.{jointPrepared, jointWarmStarted}
 use Rattle.tick.specs.Body.{solverBodyOf, integrated}
 use Rattle.tick.specs.Joint.{noTotals, resultOf}
 use Rattle.tick.specs.declared.body.BodyState.{BodyState}
+use Rattle.tick.proofs.WarmValue.{any-warm-value}
 use Rattle.tick.specs.declared.joint.JointTotals.{JointTotals}
 use Rattle.tick.specs.declared.joint.JointResult.{JointResult}
 use Rattle.card.specs.Layout.{maxBodies, maxJoints, jointFloats}
@@ -261,10 +262,10 @@ module _ (card : List ℕ) (h : Header) (s : List Float) (S : SoundCard card h) 
     unfolding warmStartedWith warmValueAt preparedAt tickBodyAt
     warm-is = rw (joint-is, first-is, second-is, pair-is)
 
-    solved-is : solvedWith (heldJoint j) h s j (tickBody (firstBody card h s j)) (tickBody (secondBody card h s j)) (pairOf (jointBits card (h .bodies) j) bodies)
+    solved-is : solvedWith (heldJoint j) h (tickBody (firstBody card h s j)) (tickBody (secondBody card h s j)) (pairOf (jointBits card (h .bodies) j) bodies)
         ≡ resultOf (solvedAt card h s j bodies)
-    unfolding solvedWith warmValueAt preparedAt tickBodyAt
-    solved-is = rw (joint-is, first-is, second-is, pair-is)
+    unfolding solvedWith preparedAt tickBodyAt
+    solved-is = rw (joint-is, first-is, second-is, pair-is) (any-warm-value _ _ _ _ _ _ _ _ _)
 
     module _ {b : JointBits} (eb : b ≡ jointBits card (h .bodies) j) (pair : BodyPair) {b₁ b₂ : SolverBody}
         (e₁ : b₁ ≡ moved (tickBody (b .body1) .index) (getD bodies (b .body1) unreadBody) (pair .body1))
@@ -278,7 +279,7 @@ module _ (card : List ℕ) (h : Header) (s : List Float) (S : SoundCard card h) 
 
       -- the joints so far, one more
       pub solve-more : (totals : List JointTotals) {r : JointResult} → live bodies totals ≡ before card h s j
-          → r ≡ solvedWith (heldJoint j) h s j (tickBody (b .body1)) (tickBody (b .body2)) (pairOf b bodies) → r .bodies ≡ pair → not (r .finite) ≡ false
+          → r ≡ solvedWith (heldJoint j) h (tickBody (b .body1)) (tickBody (b .body2)) (pairOf b bodies) → r .bodies ≡ pair → not (r .finite) ≡ false
           → live (set (set bodies (b .body1) b₁) (b .body2) b₂) (set totals j (r .totals)) ≡ before card h s (j + 1)
       unfolding before solveNext resultOf
       solve-more totals {r} inv er ep ef =
@@ -289,7 +290,7 @@ module _ (card : List ℕ) (h : Header) (s : List Float) (S : SoundCard card h) 
 
     -- the last
     pub solve-stop : {b : JointBits} (totals : List JointTotals) {r : JointResult} → b ≡ jointBits card (h .bodies) j
-        → live bodies totals ≡ before card h s j → r ≡ solvedWith (heldJoint j) h s j (tickBody (b .body1)) (tickBody (b .body2)) (pairOf b bodies)
+        → live bodies totals ≡ before card h s j → r ≡ solvedWith (heldJoint j) h (tickBody (b .body1)) (tickBody (b .body2)) (pairOf b bodies)
         → not (r .finite) ≡ true → stop card h s (live bodies totals) ≡ before card h s (h .joints)
     unfolding before solveNext resultOf
     solve-stop {b} totals {r} eb inv er ef =

@@ -110,10 +110,11 @@ module _ (joint : Joint) (h : Header) (s : List Float) (j : ℕ) where
       let i = dominatedOf (t₁ .inertia) (t₂ .inertia) in
       jointWarmStarted (jointPrepared joint (t₁ .rigid) (t₂ .rigid) warmValueAt) b (i .inertia1) (i .inertia2) (h .«warm_coefficient») .bodies
 
-  unfoldable pub solvedWith : TickBody → TickBody → BodyPair → JointResult
-  solvedWith t₁ t₂ b =
-      let i = dominatedOf (t₁ .inertia) (t₂ .inertia) in
-      resultOf (jointSolved (jointPrepared joint (t₁ .rigid) (t₂ .rigid) warmValueAt) b (i .inertia1) (i .inertia2) (dtOf h))
+-- the solve asks for no warm value
+unfoldable pub solvedWith : Joint → Header → TickBody → TickBody → BodyPair → JointResult
+solvedWith joint h t₁ t₂ b =
+    let i = dominatedOf (t₁ .inertia) (t₂ .inertia) in
+    resultOf (jointSolved (jointPrepared joint (t₁ .rigid) (t₂ .rigid) origin) b (i .inertia1) (i .inertia2) (dtOf h))
 
 -- ---- a tick of a card that no check refuses
 

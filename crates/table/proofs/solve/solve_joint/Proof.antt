@@ -8,13 +8,11 @@ unfolding solvedWith
 returns c =
     let c1 = c .before in
     let c2 = c1 .before in
-    let c3 = c2 .before in
     simp (
-      c3 .warm-value-at .ensures,
       c2 .dominated .ensures,
       c1 .dt .ensures,
       c .solve-joint .ensures,
     )
 
 pub solve-joint-spec : {M : Type 1} → statement M
-solve-joint-spec = tie.close (tie.spec (λ c κs. search needs) (λ _ _. tt) (λ c κs. search needs) (λ _ _. tt) returns)
+solve-joint-spec = tie.close (tie.spec (λ _ _. tt) (λ c κs. search needs) (λ _ _. tt) returns)

@@ -68,7 +68,7 @@ solve-joints-spec =
     (λ c. omega (arith, places (c .before .before))) (λ c. omega (arith, places (c .before .before)))
     (λ c. omega (arith, places (c .before .before .before))) (λ c. omega (arith, places (c .before .before .before)))
     (λ c. omega (arith, inside (c .before .before .before .before .before))) (λ c. omega (arith, inside (c .before .before .before .before .before)))
-    (λ c κs. let k = c .before .before .before .before .before .before in (start k .pre .0 .most-rate, start k .pre .1, k .loop-test .taken))
+    (λ c κs. let k = c .before .before .before .before .before .before in start k .pre .0 .most-rate)
     returns (λ c. omega (arith, places (c .before .before .before .before .before .before .before .before)))
     (λ c. omega (arith, places (c .before .before .before .before .before .before .before .before))) (λ _ _. tt)
     (λ c. omega (arith, places (c .before .before .before .before .before .before .before .before .before .before)))
