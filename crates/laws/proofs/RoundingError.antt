@@ -1,10 +1,11 @@
 -- How far `round` is from its fraction: at most half a unit in the last place that is kept.
-use mathlib.Core.Path.{_≡_}
+use mathlib.Core.Path.{_≡_, subst}
 use mathlib.Core.Bool.{not}
 use Prim.Native.Nat.{ℕ, _+_, _-_, _*_, _/_, _%_, _^_, _≤_, _<_, compare, Ordering, Ordering·lt, Ordering·eq, Ordering·gt}
 use native.Mathlib.Nat.{mul-le-mul-left, mul-le-mul-right, mul-pos, div-add-mod', mod-lt, div-lt-iff-lt-mul}
 use native.Mathlib.Omega.{arith}
-use lib.Dec.{T, isLe, isEq, leb→le, nleb→lt, eqb→eq}
+use lib.Dec.{T, isLe, isEq, eqb, leb→le, nleb→lt, eqb→eq, eqb-refl}
+use lib.Arith.{lt-of-le-ne}
 use lib.Pow.{pow-pos, pow-mono}
 use lib.Ieee.{Format, prec, low, size, nearest}
 use lib.Ieee.Digits.{size-le}
@@ -17,19 +18,19 @@ pub record Half (a b w : ℕ) : Type 0 where
   pub high : 2 * (w * b) ≤ 2 * a + b
   pub low : 2 * a ≤ 2 * (w * b) + b
 
--- what `compare` says of twice the remainder
+-- what `compare` says
 abbrev pub Cmp : Ordering → ℕ → ℕ → Type 0
-Cmp Ordering·lt a b = a ≤ b
+Cmp Ordering·lt a b = a < b
 Cmp Ordering·eq a b = a ≡ b
 Cmp Ordering·gt a b = b < a
 
 pub cmp : (a b : ℕ) → Cmp (compare a b) a b
-cmp a b = go (compare a b) (leb→le a b) (nleb→lt a b) (eqb→eq a b)
+cmp a b = go (compare a b) (leb→le a b) (nleb→lt a b) (eqb→eq a b) (λ (e : a ≡ b). subst (λ (x : ℕ). T (eqb a x)) e (eqb-refl a))
   where
-    go : (o : Ordering) → (T (isLe o) → a ≤ b) → (T (not (isLe o)) → b < a) → (T (isEq o) → a ≡ b) → Cmp o a b
-    go Ordering·lt h k e = h tt
-    go Ordering·eq h k e = e tt
-    go Ordering·gt h k e = k tt
+    go : (o : Ordering) → (T (isLe o) → a ≤ b) → (T (not (isLe o)) → b < a) → (T (isEq o) → a ≡ b) → (a ≡ b → T (isEq o)) → Cmp o a b
+    go Ordering·lt h k e n = lt-of-le-ne (h tt) n
+    go Ordering·eq h k e n = e tt
+    go Ordering·gt h k e n = k tt
 
 near-half : (q r b a : ℕ) (o : Ordering) → q * b + r ≡ a → r < b → Cmp o (r * 2) b → Half a b (nearest q o)
 near-half q r b a Ordering·lt e l c = record { high = omega arith; low = omega arith }

@@ -10,6 +10,7 @@ use lib.Ieee.{Float, nan, inf, fin, binary32, down, fits}
 use lib.Ieee.Fits.{down-pos}
 use Rattle.laws.proofs.Place.{steps, steps-is, steps-moved, fit-of}
 use Rattle.root.specs.Nearest.{IsUnits}
+use Rattle.root.proofs.Floor.{below-next}
 
 pub record Digits (Y : ℕ) : Type 0 where
   pub m : ℕ
@@ -58,9 +59,6 @@ module _ (Y : ℕ) (d : Digits Y) (q K : ℕ) (full : 8388608 ≤ q) where
   pub next-down : Y < (q + 1) * 2 ^ K → Y ≤ q * 2 ^ K
   next-down h = go (decLe K (d .i))
     where
-      one-less : (x y : ℕ) → x < y + 1 → x ≤ y
-      one-less x y g = omega arith
-
       go : Dec (K ≤ d .i) → Y ≤ q * 2 ^ K
-      go (yes g) = le-trans (le-of-eq (coarser g)) (mul-le-mul-right (2 ^ K) (one-less (d .m * 2 ^ (d .i - K)) q (lt-of-mul-lt-mul-right (2 ^ K) (lt-of-le-of-lt (le-of-eq (sym (coarser g))) h))))
+      go (yes g) = le-trans (le-of-eq (coarser g)) (mul-le-mul-right (2 ^ K) (below-next (d .m * 2 ^ (d .i - K)) q (lt-of-mul-lt-mul-right (2 ^ K) (lt-of-le-of-lt (le-of-eq (sym (coarser g))) h))))
       go (no g) = le-of-lt (finer (lt-of-not-le g))

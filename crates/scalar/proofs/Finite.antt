@@ -1,4 +1,4 @@
--- What the tests of refusals 7, 12 and 13 say: `over` of a finite bound is 'not finite, or over it in size' (`over-is`, with its two readings `within` and `beyond`), and `over` of the largest f32 is 'not finite' (`finite-is`).
+-- What `is_finite` rests on: `over` of a finite bound is 'not finite, or over it in size' (`over-is`), so `over` of the largest f32 is 'not finite' (`finite-is`).
 -- 'Finite' is the model's constructor fin (`isFinite`), which is also what the kit's laws call finite (`is-finite`).
 use mathlib.Core.Path.{_≡_, refl, sym, ap, _∙_}
 use mathlib.Core.Bool.{Bool, true, false, not, _&&_}
@@ -57,19 +57,6 @@ over-is nan (fin t n d) h = refl
 over-is (inf true) (fin t n d) h = refl
 over-is (inf false) (fin t n d) h = refl
 over-is (fin s m e) (fin t n d) h = ap not (in-size (m * up e * down d) (n * up d * down e) s t)
-
--- where the test fails, x is finite and at most m in size
-pub within : (x m : Float) → isFinite m ≡ true → overOf x m ≡ false → (isFinite x ≡ true) × (le (absOf x) m ≡ true)
-within x m h o = both (isFinite x) (le (absOf x) m) (sym (over-is x m h) ∙ o)
-  where
-    both : (a b : Bool) → not (a && b) ≡ false → (a ≡ true) × (b ≡ true)
-    both true true e = (refl, refl)
-    both true false e = (refl, sym e)
-    both false b e = (sym e, cc)
-
--- what is not finite is over every finite m
-pub beyond : (x m : Float) → isFinite m ≡ true → isFinite x ≡ false → overOf x m ≡ true
-beyond x m h f = over-is x m h ∙ ap (λ (b : Bool). not (b && le (absOf x) m)) f
 
 -- ---- `is_finite`
 pub is-finite : (x : Float) → isFinite x ≡ finite x

@@ -2,7 +2,7 @@
 use mathlib.Core.Path.{_≡_, refl, ap, _∙_, subst}
 use mathlib.Core.Bool.{Bool, false, cond}
 use Prim.Native.Nat.{ℕ, _+_, _-_, _*_, _^_, _≤_, _<_}
-use native.Mathlib.Nat.{le-trans, le-of-lt, le-of-eq, lt-of-le-of-lt, mul-pos, mul-le-mul, mul-le-mul-left, mul-le-mul-right, le-of-mul-le-mul-right}
+use native.Mathlib.Nat.{le-trans, le-of-lt, le-of-eq, lt-of-le-of-lt, mul-pos, mul-le-mul, mul-le-mul-left, mul-le-mul-right, le-of-mul-le-mul-right, sub-add-cancel}
 use native.Mathlib.Omega.{arith}
 use lib.Dec.{lit<, lit≤}
 use lib.IntN.{pos}
@@ -89,18 +89,15 @@ module _ (p q : ℕ) (h : p * 64 < q) where
       let lo = star-low P M W X E c z (6 * (p * (q * q) * K)) (cubed-high U X K E u x) w (times-low P M W K E d') in
       let M≤ : M ≤ P + 4 * E = le-of-mul-le-mul-right {k = c} (below P M E c z (6 * (p * (q * q) * K)) (third K) lo) (mul-pos (mul-pos q-pos q-pos) q-pos) in
       let y = 3 * (p * (q * q * (q * q))) + 3 * five - p * (p * p * (q * q)) in
-      let ey : y + p * (p * p * (q * q)) ≡ 3 * (p * (q * q * (q * q))) + 3 * five = back (p * (p * p * (q * q))) (3 * (p * (q * q * (q * q))) + 3 * five) (less (p * (p * p * (q * q))) (p * (q * q * (q * q))) five fourth) in
+      let ey : y + p * (p * p * (q * q)) ≡ 3 * (p * (q * q * (q * q))) + 3 * five = sub-add-cancel (less (p * (p * p * (q * q))) (p * (q * q * (q * q))) five fourth) in
       let y' = P + 4 * E - M in
-      let ey' : y' + M ≡ P + 4 * E = back M (P + 4 * E) M≤ in
+      let ey' : y' + M ≡ P + 4 * E = sub-add-cancel M≤ in
       let lf = least-fits P M K E f z (five * K) (p * (q * q * (q * q)) * K) g c (6 * (p * (q * q) * K)) (same-g q) (same-t K) (fifth K E e) hi in
       let mf = most-fits P M K E f z (five * K) (p * (q * q * (q * q)) * K) g c (6 * (p * (q * q) * K)) (same-g q) (same-t K) (fifth K E e) lo in
       let S = sum-relax (3 * g) (3 * (p * (q * q * (q * q)))) (p * (p * p * (q * q)) + five) y K P (M + 4 * E) y' 40 p q (mul-pos (lit< tt) (mul-pos q-pos (mul-pos (mul-pos q-pos q-pos) (mul-pos q-pos q-pos))))
       (least-as P (M + 4 * E) K five g lf) (most-as P M y y' E K five g ey ey' mf) (small-sum p q y (le-trans (omega arith) (le-of-lt h)) ey) in
       record { s = s; G = G; value = v; y = y'; fits = ey'; sum = subst (λ (R : ℕ). Sum R P (M + 4 * E) y' 40 p q) k S }
     where
-      back : (a b : ℕ) → a ≤ b → b - a + a ≡ b
-      back a b h = omega arith
-
       third : (K : ℕ) → 2 * (p * p * p * K) ≤ 6 * (p * (q * q) * K)
       third K = go (mul-le-mul-right (p * K) (mul-le-mul {n₁ = p} {m₁ = p} {n₂ = q} {m₂ = q} (omega arith) (omega arith)))
         where

@@ -10,6 +10,7 @@ use lib.Ieee.{Float, fin, binary32, up, down, round, neg, mul, div, sub, lt, unl
 use lib.Ieee.Exact.{HasValue}
 use borrow.Author.Tests.{ltb-true}
 use Rattle.trig.specs.Sine.{sixtyFourth}
+use Rattle.laws.proofs.Product.{unlike-plain}
 use Rattle.laws.proofs.RoundedValues.{mul-value, div-value, Rounded, rounded, subtracted}
 
 pub small-size : (m : ℕ) (e : ℤ) → lt (fin false m e) sixtyFourth ≡ true → m * up e * 64 < down e
@@ -38,10 +39,6 @@ below-64 s a c h = rounded s a c 143 (lt-of-le-of-lt (omega arith) h) (lit≤ tt
 same-sign : (s : Bool) → unlike s s ≡ false
 same-sign true = refl
 same-sign false = refl
-
-keep-left : (s : Bool) → unlike s false ≡ s
-keep-left true = refl
-keep-left false = refl
 
 keep-right : (s : Bool) → unlike false s ≡ s
 keep-right true = refl
@@ -107,7 +104,7 @@ cube x s p q k d n v h kp d1 kn np =
     let R = below-64 s (u .U * p) (K * q) (product (u .U) K E (lit< tt) refl U≤) in
     let vv : HasValue (mul binary32 (mul binary32 x x) x) s (R .G) K = subst (λ (z : Float). HasValue z s (R .G) K) (sym ev) (R .value) in
     let X≤ = X-bound (u .U) (R .G) K E (lit< tt) refl U≤ (R .high) in
-    let ew = div-value (mul binary32 (mul binary32 x x) x) s (R .G) K k d (lit< tt) kp vv ∙ ap (λ (z : Bool). round binary32 z (R .G * down d) (k * up d * K)) (keep-left s) ∙ ap (λ (z : ℕ). round binary32 s (R .G * z) (k * up d * K)) d1 ∙ ap (λ (z : ℕ). round binary32 s (R .G * 1) (z * K)) kn in
+    let ew = div-value (mul binary32 (mul binary32 x x) x) s (R .G) K k d (lit< tt) kp vv ∙ ap (λ (z : Bool). round binary32 z (R .G * down d) (k * up d * K)) (unlike-plain s) ∙ ap (λ (z : ℕ). round binary32 s (R .G * z) (k * up d * K)) d1 ∙ ap (λ (z : ℕ). round binary32 s (R .G * 1) (z * K)) kn in
     let S = below-64 s (R .G * 1) (n * K) (quotient (u .U) (R .G) K E U≤ X≤ refl (lit< tt)) in
     record {
       U = u .U;
