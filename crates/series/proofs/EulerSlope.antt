@@ -7,7 +7,7 @@ use lib.Ieee.Nearest.{div-mono}
 use Rattle.series.specs.Series.{eulerDenominator, eulerSum}
 use Rattle.series.proofs.EulerGrowth.{ev, od}
 use Rattle.series.proofs.Chord.{Sloped}
-use Rattle.series.proofs.EulerSums.{cauchy, at-most-one, den-pos}
+use Rattle.series.proofs.EulerSums.{cauchy, at-most-one, squares-pos, den-pos}
 use Rattle.series.proofs.EulerNearby.{law-up, law-down, tail}
 
 up-step : (M A q c Da Db Na Nb Pa Pb p : ℕ) → 0 < A * (Da * Db) → A * (Nb * Da) ≤ A * (Na * Db) + (q + 1) * (Da * Db) → Pb * Db ≤ M * Nb → M * Na ≤ (Pa + 1) * Da → M * q ≤ (p + 1) * A → M ≤ c * A → Pb ≤ Pa + p + (c + 2)
@@ -65,9 +65,6 @@ module _ (n q M c c' : ℕ) (pos : 0 < q) (terms : q * ev n ≤ 2 ^ n * od n) (c
   unfoldable pub lean : ℕ → ℕ
   lean x = M * q / (x * x + q * q)
 
-  square : (x : ℕ) → 0 < x * x + q * q
-  square x = omega (arith, mul-pos pos pos)
-
   fit : (x : ℕ) → M ≤ c * (x * x + q * q)
   fit x = omega arith
 
@@ -79,15 +76,15 @@ module _ (n q M c c' : ℕ) (pos : 0 < q) (terms : q * ev n ≤ 2 ^ n * od n) (c
 
   lean-falls : (x : ℕ) → lean (x + 1) ≤ lean x
   unfolding lean
-  lean-falls x = div-mono (M * q) ((x + 1) * (x + 1) + q * q) (M * q) (x * x + q * q) (square (x + 1)) (square x) (mul-le-mul-left (M * q) (wider x))
+  lean-falls x = div-mono (M * q) ((x + 1) * (x + 1) + q * q) (M * q) (x * x + q * q) (squares-pos (x + 1) pos) (squares-pos x pos) (mul-le-mul-left (M * q) (wider x))
 
   lean-near : (x : ℕ) → x ≤ q → lean x ≤ lean (x + 1) + (c + c' + 1)
   unfolding lean
   lean-near x h =
       le-of-mul-le-mul-right {k = (x * x + q * q) * ((x + 1) * (x + 1) + q * q)}
-      (go (x * x + q * q) ((x + 1) * (x + 1) + q * q) (M * q / (x * x + q * q)) (M * q / ((x + 1) * (x + 1) + q * q)) (floor-le (M * q) (x * x + q * q)) (floor-lt (M * q) ((x + 1) * (x + 1) + q * q) (square (x + 1))) (gap x h)
+      (go (x * x + q * q) ((x + 1) * (x + 1) + q * q) (M * q / (x * x + q * q)) (M * q / ((x + 1) * (x + 1) + q * q)) (floor-le (M * q) (x * x + q * q)) (floor-lt (M * q) ((x + 1) * (x + 1) + q * q) (squares-pos (x + 1) pos)) (gap x h)
       (both (x * x + q * q) ((x + 1) * (x + 1) + q * q) (fit (x + 1)) (fit' (x * x + q * q) ((x + 1) * (x + 1) + q * q) (omega arith) (omega arith))))
-      (mul-pos (square x) (square (x + 1)))
+      (mul-pos (squares-pos x pos) (squares-pos (x + 1) pos))
     where
       gap : (x : ℕ) → x ≤ q → q * ((x + 1) * (x + 1) + q * q) ≤ q * (x * x + q * q) + (x * x + q * q) + q
       gap x h = omega (arith, cauchy x q h)
@@ -102,13 +99,13 @@ module _ (n q M c c' : ℕ) (pos : 0 < q) (terms : q * ev n ≤ 2 ^ n * od n) (c
   unfolding arc lean
   arc-up x h =
       up-step M (x * x + q * q) q c (eulerDenominator n x q) (eulerDenominator n (x + 1) q) (eulerSum n x q) (eulerSum n (x + 1) q) (M * eulerSum n x q / eulerDenominator n x q) (M * eulerSum n (x + 1) q / eulerDenominator n (x + 1) q) (M * q / (x * x + q * q))
-      (mul-pos (square x) (mul-pos (den-pos n x q pos) (den-pos n (x + 1) q pos))) (neighbours-up n x q h pos) (floor-le _ (eulerDenominator n (x + 1) q)) (floor-lt _ (eulerDenominator n x q) (den-pos n x q pos)) (floor-lt _ (x * x + q * q) (square x)) (fit x)
+      (mul-pos (squares-pos x pos) (mul-pos (den-pos n x q pos) (den-pos n (x + 1) q pos))) (neighbours-up n x q h pos) (floor-le _ (eulerDenominator n (x + 1) q)) (floor-lt _ (eulerDenominator n x q) (den-pos n x q pos)) (floor-lt _ (x * x + q * q) (squares-pos x pos)) (fit x)
 
   arc-down : (x : ℕ) → x + 1 ≤ q → arc x + lean (x + 1) ≤ arc (x + 1) + (2 * c + 1)
   unfolding arc lean
   arc-down x h =
       down-step M ((x + 1) * (x + 1) + q * q) q c (eulerDenominator n x q) (eulerDenominator n (x + 1) q) (eulerSum n x q) (eulerSum n (x + 1) q) (M * eulerSum n x q / eulerDenominator n x q) (M * eulerSum n (x + 1) q / eulerDenominator n (x + 1) q) (M * q / ((x + 1) * (x + 1) + q * q))
-      (mul-pos (square (x + 1)) (mul-pos (den-pos n x q pos) (den-pos n (x + 1) q pos))) (neighbours-down n x q h terms) (floor-le _ (eulerDenominator n x q)) (floor-lt _ (eulerDenominator n (x + 1) q) (den-pos n (x + 1) q pos)) (floor-le _ ((x + 1) * (x + 1) + q * q)) (fit (x + 1))
+      (mul-pos (squares-pos (x + 1) pos) (mul-pos (den-pos n x q pos) (den-pos n (x + 1) q pos))) (neighbours-down n x q h terms) (floor-le _ (eulerDenominator n x q)) (floor-lt _ (eulerDenominator n (x + 1) q) (den-pos n (x + 1) q pos)) (floor-le _ ((x + 1) * (x + 1) + q * q)) (fit (x + 1))
 
   pub arc-sloped : Sloped arc (λ x. 0) lean (λ x. 0) (3 * c + c' + 2) (c + c' + 1) q
   arc-sloped = record {

@@ -38,12 +38,12 @@ at-most-one p q n h pos = le-of-mul-le-mul-right (go (eulerSum n p q * ((p * p +
     go : (a b c : ℕ) → a + 2 * b ≤ c → a ≤ c
     go a b c h = omega arith
 
+pub squares-pos : (p : ℕ) {q : ℕ} → 0 < q → 0 < p * p + q * q
+squares-pos p h = omega (arith, mul-pos h h)
+
 pub den-pos : (n p q : ℕ) → 0 < q → 0 < eulerDenominator n p q
 den-pos zero p q h = omega arith
-den-pos (suc n) p q h = mul-pos (den-pos n p q h) (mul-pos (square p) (omega arith))
-  where
-    square : (p : ℕ) → 0 < p * p + q * q
-    square p = omega (arith, mul-pos h h)
+den-pos (suc n) p q h = mul-pos (den-pos n p q h) (mul-pos (squares-pos p h) (omega arith))
 
 -- what the terms past the n-th come to: at most (2n)!! / (2n-1)!! / 2^n
 pub tail-small : (n p q : ℕ) → p ≤ q → 2 ^ n * (p * p) ^ n ≤ (p * p + q * q) ^ n

@@ -5,6 +5,7 @@ use mathlib.Core.Path.{_≡_, sym, subst}
 use Prim.Native.Nat.{ℕ, suc, _+_, _*_, _≤_, _<_}
 use native.Mathlib.Nat.{mul-le-mul-left, le-trans, le-of-mul-le-mul-left, le-of-mul-le-mul-right, add-assoc}
 use native.Mathlib.Omega.{arith}
+use Rattle.series.proofs.Numbers.{swap-sums}
 use Rattle.series.proofs.Chord.{Sloped, sag, chord-above, chord-below, climbs, falls}
 use Rattle.series.proofs.Lookup.{look, middle}
 
@@ -49,8 +50,5 @@ module _ (P N p n : ℕ → ℕ) (e k z : ℕ) (s : Sloped P N p n e k z) (g : �
         high = look R U F u v f f' rest (P (l + u)) (N (l + u)) (P l) (N l) (P y) (N y) p₀ n₀ p₁ n₁ t (sag P N p n e k z s u v) q Q m m' Hu Fp (chord-above P N p n e k z s l u v r) (a₀ .high) (a₁ .high) sg e₁ e₂ er
             (step-fits R U t (P l) (N l) (P y) (N y) p₀ n₀ p₁ n₁ ((u + v) * (g + e)) (F * Q) Up cl st (a₀ .high) (a₁ .low)) h;
         low = look R U F u v f f' rest (N (l + u)) (P (l + u)) (N l) (P l) (N y) (P y) n₀ p₀ n₁ p₁ t (sag P N p n e k z s u v) q Q m' m Hu Fp (chord-below P N p n e k z s l u v r) (a₀ .low) (a₁ .low) sg e₁ e₂ er
-            (step-fits R U t (N l) (P l) (N y) (P y) n₀ p₀ n₁ p₁ ((u + v) * (g + e)) (F * Q) Up (turn (P l) (N y) (P y) (N l) ((u + v) * (g + e)) fa) st (a₀ .low) (a₁ .high)) k';
+            (step-fits R U t (N l) (P l) (N y) (P y) n₀ p₀ n₁ p₁ ((u + v) * (g + e)) (F * Q) Up (swap-sums (P l) (N y) (P y) (N l) ((u + v) * (g + e)) fa) st (a₀ .low) (a₁ .high)) k';
       }
-    where
-      turn : (a b c d g : ℕ) → a + b ≤ c + d + g → b + a ≤ d + c + g
-      turn a b c d g h = omega arith

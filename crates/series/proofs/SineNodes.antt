@@ -10,6 +10,7 @@ use lib.Dec.{T, leb, leb→le}
 use lib.ListN.{getD}
 use lib.Ieee.Fits.{and-l, and-r}
 use Rattle.series.specs.Tables.{sines}
+use Rattle.series.proofs.TableTest.{split}
 use Rattle.series.proofs.Polynomials.{eval, pad, pad-is}
 use Rattle.series.proofs.SinePolynomials.{L0, L1, L2, L3, whole, table-step, a, b, c, d}
 
@@ -41,15 +42,11 @@ Passes s = T (from L0 L1 L2 L3 sines whole 1305 s)
 from-sound : (l0 l1 l2 l3 tab : List ℕ) (w n s : ℕ) → T (from l0 l1 l2 l3 tab w n s) → (i : ℕ) → s ≤ i → i < s + n → T (node l0 l1 l2 l3 tab w i)
 from-sound l0 l1 l2 l3 tab w zero s t i h l = absurd (omega arith)
 from-sound l0 l1 l2 l3 tab w (suc n) s t i h l =
-    let r = pick (node l0 l1 l2 l3 tab w s) (from l0 l1 l2 l3 tab w n (suc s)) t in
+    let r = split (node l0 l1 l2 l3 tab w s) (from l0 l1 l2 l3 tab w n (suc s)) t in
     elim (eq-or-lt-of-le h) [
       | inl e ↦ subst (λ (m : ℕ). T (node l0 l1 l2 l3 tab w m)) e (r .0)
       | inr k ↦ from-sound l0 l1 l2 l3 tab w n (suc s) (r .1) i k (omega arith)
     ]
-  where
-    pick : (x y : Bool) → T (elim x [ true ↦ y | false ↦ false ]) → T x × T y
-    pick true y t = (tt, t)
-    pick false y t = absurd t
 
 abbrev pub Node : ℕ → Type 0
 Node s = T (node L0 L1 L2 L3 sines whole s)

@@ -7,6 +7,7 @@ use native.Mathlib.Nat.{eq-or-lt-of-le, le-of-suc-le-suc, le-trans, le-refl, mul
 use native.Mathlib.Omega.{arith}
 use lib.Dec.{T, leb, leb→le, lit≤, lit<}
 use lib.Ieee.Fits.{and-l, and-r}
+use Rattle.series.proofs.Numbers.{swap-sums}
 use Rattle.series.proofs.Oscillation.{Next, Within, stays}
 use Rattle.series.proofs.Chord.{Sloped}
 use Rattle.series.proofs.SinePolynomials.{L0, L1, L2, L3, whole, slack, grid, reach, table-step, a, b, c, d, osc}
@@ -99,7 +100,7 @@ sloped f g p n h i nf ng np nn l u = record {
   up = λ x k. up grid slack (f x) (f (suc x)) (g x) (g (suc x)) (p x) (n x) (nf .most x k) (ng .least x k);
   down = λ x k. down grid slack (f x) (f (suc x)) (g x) (g (suc x)) (p x) (n x) (nf .least x k) (ng .most x k);
   steeper = λ x k. turn grid slack bend most (p x) (p (suc x)) (n x) (n (suc x)) (h x) (i x) (lit< tt) room (np .most x k) (nn .least x k) (l x k);
-  flatter = λ x k. flip (n (suc x)) (p x) (n x) (p (suc x)) bend (turn grid slack bend most (n x) (n (suc x)) (p x) (p (suc x)) (i x) (h x) (lit< tt) room (nn .most x k) (np .least x k) (u x k));
+  flatter = λ x k. swap-sums (n (suc x)) (p x) (n x) (p (suc x)) bend (turn grid slack bend most (n x) (n (suc x)) (p x) (p (suc x)) (i x) (h x) (lit< tt) room (nn .most x k) (np .least x k) (u x k));
 }
   where
     up : (D M b b' d d' a c : ℕ) → D * b' ≤ D * b + a + M → D * d + c ≤ D * d' + M → D * b' + D * d + c ≤ D * b + D * d' + a + 2 * M
@@ -107,9 +108,6 @@ sloped f g p n h i nf ng np nn l u = record {
 
     down : (D M b b' d d' a c : ℕ) → D * b + a ≤ D * b' + M → D * d' ≤ D * d + c + M → D * b + D * d' + a ≤ D * b' + D * d + c + 2 * M
     down D M b b' d d' a c h k = omega arith
-
-    flip : (x y z w k : ℕ) → x + y ≤ z + w + k → y + x ≤ w + z + k
-    flip x y z w k h = omega arith
 
 pub sine-sloped : Sloped (λ x. grid * b x) (λ x. grid * d x) a c (2 * slack) bend reach
 sine-sloped = sloped b d a c d b (osc .nb) (osc .nd) (osc .na) (osc .nc) (λ x h. bounded x (le-of-lt h) .db) (λ x h. bounded x (le-of-lt h) .bd)

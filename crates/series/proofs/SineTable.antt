@@ -5,6 +5,7 @@ use native.Mathlib.Nat.{mul-le-mul-left, mul-le-mul-right, le-trans, le-of-mul-l
 use native.Mathlib.Omega.{arith}
 use lib.Dec.{lit<}
 use Rattle.series.specs.Tables.{sines}
+use Rattle.series.proofs.Numbers.{swap-sums}
 use Rattle.series.proofs.Chord.{Sloped, climbs, falls}
 use Rattle.series.proofs.Interpolation.{At, between}
 use Rattle.series.proofs.SinePolynomials.{whole, slack, grid, reach, table-step, a, b, c, d}
@@ -96,7 +97,7 @@ module _ (f g p n : ℕ → ℕ) (sl : Sloped (λ x. grid * f x) (λ x. grid * g
       let w = l + u in
       record {
         high = close-up grid whole G (f w) (f (w + j)) (g w) (g (w + j)) m m' (lit< tt) (R .high) up G≤;
-        low = close-up grid whole G (g w) (g (w + j)) (f w) (f (w + j)) m' m (lit< tt) (R .low) (turn (grid * f w) (grid * g (w + j)) (grid * f (w + j)) (grid * g w) G dn) G≤;
+        low = close-up grid whole G (g w) (g (w + j)) (f w) (f (w + j)) m' m (lit< tt) (R .low) (swap-sums (grid * f w) (grid * g (w + j)) (grid * f (w + j)) (grid * g w) G dn) G≤;
       }
     where
       next : (s u v : ℕ) → u + v ≡ 3373259426 → suc s * 3373259426 ≡ s * 3373259426 + u + v
@@ -104,9 +105,6 @@ module _ (f g p n : ℕ → ℕ) (sl : Sloped (λ x. grid * f x) (λ x. grid * g
 
       fits : (s : ℕ) → s ≤ 10430 → suc s * 3373259426 ≤ reach
       fits s h = omega arith
-
-      turn : (a b c d g : ℕ) → a + b ≤ c + d + g → b + a ≤ d + c + g
-      turn a b c d g h = omega arith
 
   pub close : (y : ℕ) → y ≤ 2 ^ 45 → (m m' : ℕ) → Line (turned y % 65536) (tp (turned y / 65536)) (tn (turned y / 65536)) (tp (suc (turned y / 65536))) (tn (suc (turned y / 65536))) m m' → Close whole (f y) (g y) m m'
   close y h m m' t =

@@ -12,7 +12,7 @@ abbrev pub allFrom : (ℕ → ℕ → Bool) → List ℕ → ℕ → Bool
 allFrom rule [] n = true
 allFrom rule (x ∷ xs) n = elim (rule n x) [ true ↦ allFrom rule xs (suc n) | false ↦ false ]
 
-split : (b c : Bool) → T (elim b [ true ↦ c | false ↦ false ]) → T b × T c
+pub split : (b c : Bool) → T (elim b [ true ↦ c | false ↦ false ]) → T b × T c
 split true c t = (tt, t)
 split false c t = absurd t
 
