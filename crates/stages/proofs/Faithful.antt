@@ -1,19 +1,15 @@
--- Any joint's solve is the run of its steps, and where its end is finite, each of its stages is bounded and each motor's push is under its cap.
+-- Any joint's solve is the run of its steps, and where its end is finite, each of its stages and pushes is sound.
 use mathlib.Core.Path.{_≡_, sym, subst}
-use mathlib.Core.List.{List·Memᴰ}
 use Rattle.solver_body.specs.declared.BodyPair.{BodyPair}
 use Rattle.xpbd_plugin.specs.Joint.{jointSolved}
 use Rattle.xpbd_plugin.specs.declared.PreparedJoint.{PreparedJoint}
 use Rattle.xpbd_plugin.specs.declared.PreparedJoint.the-variants.{Fixed, Revolute, Prismatic, Spherical, Distance}
-use Rattle.stages.specs.Stage.{Stage}
-use Rattle.stages.specs.Steps.{Setting, run, MotorPush, aStage, aPush, events}
+use Rattle.stages.specs.Steps.{Setting, run, events}
 use Rattle.stages.specs.Any.{totalsOf, stepsOf, runOf}
 pub use Rattle.stages.specs.Any.{startOf}
-use Rattle.stages.specs.Demand.{Bounded, Capped}
 use Rattle.stages.proofs.Same.{fixed-is-steps, hinge-is-steps, slide-is-steps, ball-is-steps, tether-is-steps}
 use Rattle.stages.proofs.Back.{Calm}
-use Rattle.stages.proofs.Sound.{SettingOk, StepOk, Fit, All, all-at, EventSound, steps-sound}
-use Rattle.stages.proofs.Laws.{bounded, capped}
+use Rattle.stages.proofs.Sound.{SettingOk, StepOk, Fit, All, EventSound, steps-sound}
 
 pub joint-is-steps : (S : Setting) (p : PreparedJoint) (b : BodyPair) → run S (stepsOf p) (startOf p b) ≡ runOf (jointSolved p b (S .inertia1) (S .inertia2) (S .dt))
 unfolding jointSolved totalsOf stepsOf
@@ -26,9 +22,3 @@ joint-is-steps S (Distance j k) b = tether-is-steps S j k b
 module _ (S : Setting) (o : SettingOk S) (p : PreparedJoint) (ok : All StepOk (stepsOf p)) (b : BodyPair) (f : Fit b) (h : Calm (runOf (jointSolved p b (S .inertia1) (S .inertia2) (S .dt)))) where
   pub joint-sound : All EventSound (events S (stepsOf p) (startOf p b))
   joint-sound = steps-sound S o (stepsOf p) ok (startOf p b) f (subst Calm (sym (joint-is-steps S p b)) h)
-
-  pub stages-bounded : (s : Stage) → List·Memᴰ (aStage s) (events S (stepsOf p) (startOf p b)) → Bounded s
-  stages-bounded s m = bounded s (all-at EventSound joint-sound m)
-
-  pub pushes-capped : (u : MotorPush) → List·Memᴰ (aPush u) (events S (stepsOf p) (startOf p b)) → Capped u
-  pushes-capped u m = capped u (all-at EventSound joint-sound m)
