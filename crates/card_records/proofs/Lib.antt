@@ -2,5 +2,4 @@ pub mod Signed
 pub mod Writes
 pub mod Starting
 pub mod Faults
-pub mod Decoded
 pub mod StartState

@@ -1,14 +1,14 @@
--- The start state: its length, and each body's numbers in it.
+-- Each body's numbers in the start state.
 use Prim.Native.Nat.{ℕ, suc, _*_, _<_}
 use native.Mathlib.Nat.{eq-or-lt-of-le, le-of-suc-le-suc}
 use mathlib.Core.Path.{_≡_, refl, ap, _∙_}
 use mathlib.Core.Logic.{_⊎_, inl, inr}
 use mathlib.Core.List.{List, _++_, append-assoc}
-use lib.ListN.{length, take, drop, replicate, length-append, length-replicate}
+use lib.ListN.{length, take, drop, replicate}
 use lib.Seq.{take-at, drop-at}
 use lib.Ieee.{Float}
 use Rattle.scalar.specs.Arith.{f0}
-use Rattle.card.specs.Layout.{bodyNumbers, jointNumbers, stateLength}
+use Rattle.card.specs.Layout.{bodyNumbers, jointNumbers}
 use Rattle.card.specs.declared.records.Header.{Header}
 use Rattle.card_records.specs.Decode.{bodyAt}
 use Rattle.card_records.specs.State.{bodyStart, startTo, startState}
@@ -42,7 +42,3 @@ module _ (card : List ℕ) where
     pub start-body : (i : ℕ) → i < h .bodies → take bodyNumbers (drop (bodyNumbers * i) (startState card h)) ≡ bodyStart (bodyAt card i)
     unfolding startState
     start-body i l = in-bodies (h .bodies) i l (replicate (jointNumbers * h .joints) f0)
-
-    pub start-state-length : length (startState card h) ≡ stateLength (h .bodies) (h .joints)
-    unfolding startState
-    start-state-length = simp (length-append, length-replicate, start-length card (h .bodies))
