@@ -1,23 +1,22 @@
 -- After every list of calls an anchored body's 13 numbers are the card's.
-use Prim.Native.Nat.{ℕ, zero, suc, _+_, _-_, _*_, _≤_, _<_}
+use Prim.Native.Nat.{ℕ, suc, _+_, _-_, _*_, _≤_, _<_}
 use native.Mathlib.Nat.{lt-of-not-le}
 use native.Mathlib.Omega.{arith}
 use native.Mathlib.Decide.{decLe}
 use mathlib.Core.Path.{_≡_, refl, sym, ap, _∙_, subst}
 use mathlib.Core.Logic.{_⊎_, inl, inr}
 use mathlib.Core.Bool.{Bool, true, false, not}
-use mathlib.Core.List.{List, [], _∷_, _++_, append-assoc, List·Memᴰ, List·Memᴰ·head, List·Memᴰ·tail}
-use lib.ListN.{length, getD, take, drop, set, replicate, length-append}
-use lib.Seq.{sets, take-set-le, drop-set-lt, drop-set-add, take-at, drop-at}
-use lib.Dec.{T, T-not, eqb, eqb→eq}
+use mathlib.Core.List.{List, [], _∷_, List·Memᴰ, List·Memᴰ·head, List·Memᴰ·tail}
+use lib.ListN.{length, getD, take, drop, set}
+use lib.Seq.{sets, take-set-le, drop-set-lt, drop-set-add}
+use lib.Dec.{T, T-not, eqb}
 use lib.Ieee.{Float}
-use Rattle.scalar.specs.Arith.{if_then_else_, f0}
-use Rattle.card.specs.Layout.{jointNumbers, stateLength}
+use Rattle.scalar.specs.Arith.{if_then_else_}
+use Rattle.card.specs.Layout.{stateLength}
 use Rattle.card.specs.Loop.{anyTo}
 use Rattle.card.specs.Records.{headerAt, bodyBits}
 use Rattle.card.specs.Checks.{checkOf}
-use Rattle.card_records.specs.Decode.{bodyAt}
-use Rattle.card_records.specs.State.{bodyStart, startTo, startState, orElse, stateFault, checkStateOf, Answered, answered, startAccepted, startOf}
+use Rattle.card_records.specs.State.{startState, checkStateOf, Answered, answered, startAccepted, startOf}
 use Rattle.card.specs.declared.records.Header.{Header}
 use Rattle.tick.specs.Joint.{noTotals}
 use Rattle.table.specs.Loop.{after}
@@ -25,32 +24,16 @@ use Rattle.table.specs.Tick.{totalsPlace, bodyStateNumbers, totalsNumbers, newB
 use Rattle.table.specs.Run.{tickOf, tickNext, runOf}
 use Rattle.table.specs.declared.solve.Solved.{Solved}
 use Rattle.demand.specs.Demand.{Call, start, tick, ticks, bytesOf, leaves, afterCalls, CardOrRefused, AnchoredKept}
-use Rattle.demand.proofs.Loops.{either, otherwise, after-all}
+use Rattle.card_records.proofs.Starting.{start-refused}
+use Rattle.card_records.proofs.StartState.{start-body}
+use Rattle.table.proofs.Loops.{after-all}
+use Rattle.table.proofs.Ticking.{tick-refused}
+use Rattle.demand.proofs.Loops.{either}
 
 -- ---- the start
 
-start-length : (card : List ℕ) (n : ℕ) → length (startTo card n) ≡ 13 * n
-unfolding startTo bodyStart
-start-length card zero = refl
-start-length card (suc n) = length-append (startTo card n) (bodyStart (bodyAt card n)) ∙ step (length (startTo card n)) (start-length card n)
-  where
-    step : (k : ℕ) → k ≡ 13 * n → k + 13 ≡ 13 * suc n
-    step k e = omega arith
-
-start-body : (card : List ℕ) (n : ℕ) (r : List Float) (i : ℕ) → i < n → take 13 (drop (13 * i) (startTo card n ++ r)) ≡ bodyStart (bodyAt card i)
-unfolding startTo bodyStart
-start-body card zero r i h = absurd (omega arith)
-start-body card (suc n) r i h =
-    let b = bodyStart (bodyAt card n) in
-    ap (λ (l : List Float). take 13 (drop (13 * i) l)) (append-assoc (startTo card n) b r)
-    ∙ elim (decLe n i) [
-      | yes l ↦ let e : i ≡ n = omega arith in rw e (ap (take 13) (drop-at (startTo card n) (b ++ r) (13 * n) (start-length card n)) ∙ take-at b r 13 refl)
-      | no l ↦ start-body card n (b ++ r) i (lt-of-not-le l)
-    ]
-
 start-kept : (card : List ℕ) → AnchoredKept card (startState card (headerAt card))
-unfolding startState
-start-kept card i h a = start-body card (headerAt card .bodies) (replicate (jointNumbers * headerAt card .joints) f0) i h
+start-kept card i h a = start-body card (headerAt card) i h
 
 -- ---- stores elsewhere
 
@@ -122,26 +105,8 @@ module _ (card : List ℕ) (s : List Float) (i : ℕ) (h : i < headerAt card .bo
 
 -- ---- bytes that the card's checks refuse: nothing is written
 
-or-else-zero : (m n : ℕ) → orElse m n ≡ 0 → m ≡ 0
-unfolding orElse
-or-else-zero zero n e = refl
-or-else-zero (suc m) n e = e
-
-pub state-zero : (card : List ℕ) (s : List Float) → checkStateOf card s ≡ 0 → checkOf card ≡ 0
-unfolding checkStateOf
-state-zero card s e = or-else-zero (checkOf card) (stateFault (headerAt card .bodies) (headerAt card .joints) s) e
-
-tick-refused : (card : List ℕ) (s : List Float) → (checkOf card ≡ 0 → ⊥) → tickOf card s .state ≡ s
-unfolding tickOf
-tick-refused card s r =
-    ap (λ (a : Answered). a .state)
-    (otherwise (eqb (checkStateOf card s) 0) (tickAccepted card (headerAt card) s) (answered (checkStateOf card s) s) (λ v. r (state-zero card s (eqb→eq (checkStateOf card s) 0 v))))
-
-start-refused : (card : List ℕ) (s : List Float) → (checkOf card ≡ 0 → ⊥) → startOf card s .state ≡ s
-unfolding startOf
-start-refused card s r =
-    ap (λ (a : Answered). a .state)
-    (otherwise (eqb (checkOf card) 0) (startAccepted card (headerAt card) s) (answered (checkOf card) s) (λ v. r (eqb→eq (checkOf card) 0 v)))
+left : (r : Answered) {k : ℕ} {s : List Float} → answered k s ≡ r → r .state ≡ s
+left r e = ap (λ (a : Answered). a .state) (sym e)
 
 -- ---- calls
 
@@ -150,7 +115,7 @@ KeptBy card r = AnchoredKept card (r .state)
 
 tick-leaves : (card d : List ℕ) (s : List Float) → CardOrRefused card d → AnchoredKept card s → AnchoredKept card (tickOf d s .state)
 tick-leaves card d s (inl e) z = rw e (λ i h a. tick-kept card s i h a ∙ z i h a)
-tick-leaves card d s (inr r) z = rw (tick-refused d s r) z
+tick-leaves card d s (inr r) z = rw (left (tickOf d s) (tick-refused d s (checkOf d) refl r)) z
 
 next-leaves : (card d : List ℕ) → CardOrRefused card d → (i : ℕ) (r : Answered) → KeptBy card r → KeptBy card (tickNext d i r)
 unfolding tickNext
@@ -169,7 +134,7 @@ start-same card s z =
 
 start-leaves : (card d : List ℕ) (s : List Float) → CardOrRefused card d → AnchoredKept card s → AnchoredKept card (startOf d s .state)
 start-leaves card d s (inl e) z = rw e (start-same card s z)
-start-leaves card d s (inr r) z = rw (start-refused d s r) z
+start-leaves card d s (inr r) z = rw (left (startOf d s) (start-refused d s (checkOf d) refl r)) z
 
 call-leaves : (card : List ℕ) (c : Call) (s : List Float) → CardOrRefused card (bytesOf c) → AnchoredKept card s → AnchoredKept card (leaves c s)
 call-leaves card (start d) s b z = start-leaves card d s b z

@@ -2,10 +2,11 @@
 use mathlib.Core.Path.{_≡_, refl, subst}
 use mathlib.Core.Bool.{_&&_}
 use lib.Dec.{T}
-use lib.Ieee.{Float, nan, inf, fin}
+use lib.Ieee.{Float}
 use lib.Ieee.Fits.{and-l, and-r}
 use lib.Ieee.Scale.{finite}
 use Rattle.scalar.specs.Scalar.{isFinite}
+use Rattle.scalar.proofs.Finite.{is-finite}
 use Rattle.vector.specs.declared.Vec3.{Vec3}
 use Rattle.solver_body.specs.declared.SolverBody.{SolverBody}
 use Rattle.xpbd_plugin.specs.declared.PreparedJoint.{PreparedJoint}
@@ -20,10 +21,7 @@ use Rattle.tick.specs.Joint.{totalsOf, preparedFinite, totalsFinite, jointFinit
 use Rattle.tick.specs.declared.joint.JointTotals.{JointTotals}
 
 finite-is : (x : Float) → T (isFinite x) → T (finite x)
-unfolding isFinite
-finite-is nan h = h
-finite-is (inf s) h = h
-finite-is (fin s m e) h = h
+finite-is x h = subst T (is-finite x) h
 
 vector-finite : (v : Vec3) → T (finite3 v) → Finite3 v
 unfolding finite3

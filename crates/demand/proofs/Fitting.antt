@@ -32,7 +32,8 @@ use Rattle.tick.specs.Joint.{noTotals, jointFinite}
 use Rattle.tick.specs.declared.body.BodyState.{BodyState}
 use Rattle.table.specs.Tick.{bodyStateAt, firstBody, secondBody, inertiasAt, preparedAt, putMoving, pairAt, putPair, loadNext, warmStartNext, integrateNext, loaded, warmStarted, preSolve, solvedAt, putSolved, stop, solveNext, before}
 use Rattle.table.specs.declared.solve.Solved.{Solved}
-use Rattle.demand.proofs.Loops.{either, after-all}
+use Rattle.table.proofs.Loops.{after-all}
+use Rattle.demand.proofs.Loops.{either}
 
 abbrev Fitting : SolverBody → Type 0
 Fitting b = Fits3 (b .«delta_position»)

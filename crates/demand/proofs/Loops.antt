@@ -1,11 +1,10 @@
--- Laws of `after`, and of a choice.
-use Prim.Native.Nat.{ℕ, zero, suc, _≤_, _<_}
+-- A law of a choice, and one of `after`.
+use Prim.Native.Nat.{ℕ, zero, suc, _≤_}
 use native.Mathlib.Nat.{eq-or-lt-of-le, le-of-suc-le-suc}
 use native.Mathlib.Omega.{arith}
-use mathlib.Core.Path.{_≡_, refl, sym, subst}
+use mathlib.Core.Path.{_≡_, sym, subst}
 use mathlib.Core.Logic.{inl, inr}
 use mathlib.Core.Bool.{Bool, true, false}
-use lib.Dec.{T}
 use Rattle.scalar.specs.Arith.{if_then_else_}
 use Rattle.table.specs.Loop.{after}
 
@@ -13,17 +12,7 @@ pub either : {A : Type 0} (P : A → Type 0) (v : Bool) (x y : A) → P x → P 
 either P true x y p q = p
 either P false x y p q = q
 
-pub otherwise : {A : Type 0} (v : Bool) (x y : A) → (T v → ⊥) → (if v then x else y) ≡ y
-otherwise true x y h = absurd (h tt)
-otherwise false x y h = refl
-
 module _ {S : Type 0} (f : ℕ → S → S) (s : S) where
-  -- what the start has and each step below n keeps
-  pub after-all : (P : S → Type 0) (n : ℕ) → P s → ((i : ℕ) (t : S) → i < n → P t → P (f i t)) → P (after f s n)
-  unfolding after
-  after-all P zero base step = base
-  after-all P (suc n) base step = step n (after f s n) (omega arith) (after-all P n base (λ i t h. step i t (omega arith)))
-
   -- what a step leaves only where it was there before: there after n steps, there after fewer
   pub after-back : (P : S → Type 0) → ((i : ℕ) (t : S) → P (f i t) → P t) → (i n : ℕ) → i ≤ n → P (after f s n) → P (after f s i)
   unfolding after

@@ -25,9 +25,9 @@ use Rattle.table.specs.Loop.{after}
 use Rattle.table.specs.Tick.{preparedAt, pairAt, preSolve, solvedAt, putSolved, stop, solveNext, before, newFault, stored, finished, tickAccepted}
 use Rattle.table.specs.Run.{tickOf}
 use Rattle.table.specs.declared.solve.Solved.{Solved}
+use Rattle.table.proofs.Ticking.{card-passed}
 use Rattle.demand.specs.Trace.{solveAt, settingAt, stepsAt, startAt, eventsAt}
 use Rattle.demand.proofs.Loops.{after-back}
-use Rattle.demand.proofs.Anchored.{state-zero}
 use Rattle.demand.proofs.Calm.{solve-calm}
 use Rattle.demand.proofs.Fitting.{pair-fit, before-fit}
 use Rattle.demand.proofs.Given.{setting-ok, steps-ok}
@@ -83,7 +83,7 @@ tick-done card s e = go (eqb (checkStateOf card s) 0) (eqb→eq (checkStateOf ca
     h = headerAt card
 
     go : (v : Bool) → (T v → checkStateOf card s ≡ 0) → (checkStateOf card s ≡ 0 → T v) → (if v then finished card h s (before card h s (h .joints)) else answered (checkStateOf card s) s) .number ≡ 0 → (checkOf card ≡ 0) × Live (before card h s (h .joints))
-    go true k m e = (state-zero card s (k tt), finished-live card h s (before card h s (h .joints)) e)
+    go true k m e = (card-passed card s (k tt), finished-live card h s (before card h s (h .joints)) e)
     go false k m e = absurd (m e)
 
 pub tick-sound : (card : List ℕ) (s : List Float) → tickOf card s .number ≡ 0 → (j : ℕ) → j < headerAt card .joints → All EventSound (eventsAt card s j)

@@ -32,11 +32,11 @@ module _ {S : Type 0} (f : ℕ → S → S) (s : S) where
   unfolding after
   after-kept i n h k = le-ind {n = i} (λ m. after f s m ≡ after f s i) refl (λ m _ q. rw q (k m)) n h
 
-  -- what the start has and each step keeps, every number of steps leaves
-  pub after-all : (P : S → Type 0) → P s → ((i : ℕ) (t : S) → P t → P (f i t)) → (n : ℕ) → P (after f s n)
+  -- what the start has and each step below n keeps
+  pub after-all : (P : S → Type 0) (n : ℕ) → P s → ((i : ℕ) (t : S) → i < n → P t → P (f i t)) → P (after f s n)
   unfolding after
-  after-all P base step zero = base
-  after-all P base step (suc n) = step n (after f s n) (after-all P base step n)
+  after-all P zero base step = base
+  after-all P (suc n) base step = step n (after f s n) (omega arith) (after-all P n base (λ i t h. step i t (omega arith)))
 
 -- steps that agree below n
 pub after-same : {S : Type 0} (f g : ℕ → S → S) (s : S) (n : ℕ) → ((i : ℕ) → i < n → (t : S) → f i t ≡ g i t) → after f s n ≡ after g s n
@@ -61,7 +61,7 @@ module _ {A : Type 0} where
 
   module _ (v : ℕ → A) (l : List A) where
     pub fill-length : (n : ℕ) → length (after (fill v) l n) ≡ length l
-    fill-length n = after-all (fill v) l (λ t. length t ≡ length l) refl (λ i t h. length-set t i (v i) ∙ h) n
+    fill-length n = after-all (fill v) l (λ t. length t ≡ length l) n refl (λ i t m h. length-set t i (v i) ∙ h)
 
     pub fill-at : (d : A) (i n : ℕ) → i < n → n ≤ length l → getD (after (fill v) l n) i d ≡ v i
     unfolding after

@@ -60,9 +60,9 @@ module _ (card : List ℕ) (h : Header) (s : List Float) where
   pub places : (j : ℕ) → Places (before card h s j)
   unfolding before solveNext
   places j =
-      after-all (solveNext card h s) (record { stopped = false; bodies = preSolve card h s; totals = replicate maxJoints noTotals }) Places
+      after-all (solveNext card h s) (record { stopped = false; bodies = preSolve card h s; totals = replicate maxJoints noTotals }) Places j
       (record { bodies = pre-length card h s; totals = length-replicate maxJoints noTotals })
-      (λ m σ p. next-places (σ .stopped) (jointFinite (solvedAt card h s m (σ .bodies))) σ (putSolved card h s m (solvedAt card h s m (σ .bodies)) σ) p (put-places m σ p)) j
+      (λ m σ l p. next-places (σ .stopped) (jointFinite (solvedAt card h s m (σ .bodies))) σ (putSolved card h s m (solvedAt card h s m (σ .bodies)) σ) p (put-places m σ p))
 
 -- ---- the new numbers
 

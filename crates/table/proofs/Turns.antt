@@ -128,24 +128,24 @@ module _ (card : List ℕ) (h : Header) (s : List Float) where
   pub loaded-length : length (loaded card h s) ≡ maxBodies
   unfolding loaded
   loaded-length =
-      after-all (loadNext card s) (replicate maxBodies dummyBody) (λ l. length l ≡ maxBodies) (length-replicate maxBodies dummyBody)
-      (λ i l e. moving-length (anchoredAt card i) l i (solverBodyOf (bodyStateAt s i)) ∙ e) (h .bodies)
+      after-all (loadNext card s) (replicate maxBodies dummyBody) (λ l. length l ≡ maxBodies) (h .bodies) (length-replicate maxBodies dummyBody)
+      (λ i l m e. moving-length (anchoredAt card i) l i (solverBodyOf (bodyStateAt s i)) ∙ e)
 
   pub warm-length : length (warmStarted card h s) ≡ maxBodies
   unfolding warmStarted
   warm-length =
-      after-all (warmStartNext card h s) (loaded card h s) (λ l. length l ≡ maxBodies) loaded-length
-      (λ j l e.
+      after-all (warmStartNext card h s) (loaded card h s) (λ l. length l ≡ maxBodies) (h .joints) loaded-length
+      (λ j l m e.
       let f = firstBody card h s j in
       let b = warmStartedAt card h s j l in
       moving-length (anchoredAt card (secondBody card h s j)) (putMoving card f (b .body1) l) (secondBody card h s j) (b .body2)
-      ∙ moving-length (anchoredAt card f) l f (b .body1) ∙ e) (h .joints)
+      ∙ moving-length (anchoredAt card f) l f (b .body1) ∙ e)
 
   pub pre-length : length (preSolve card h s) ≡ maxBodies
   unfolding preSolve
   pre-length =
-      after-all (integrateNext card h s) (warmStarted card h s) (λ l. length l ≡ maxBodies) warm-length
-      (λ i l e. moving-length (anchoredAt card i) l i (integrated (getD l i dummyBody) (inertiaAt card i) (h .gravity) (dtOf h)) ∙ e) (h .bodies)
+      after-all (integrateNext card h s) (warmStarted card h s) (λ l. length l ≡ maxBodies) (h .bodies) warm-length
+      (λ i l m e. moving-length (anchoredAt card i) l i (integrated (getD l i dummyBody) (inertiaAt card i) (h .gravity) (dtOf h)) ∙ e)
 
 -- ---- joints
 

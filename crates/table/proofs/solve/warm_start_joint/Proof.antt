@@ -1,4 +1,3 @@
-use native.Mathlib.Omega.{arith}
 use borrow.Author.Needs.{needs}
 use Rattle.table.specs.Parts.{warmStartedWith}
 use Rattle.table.proofs.solve.warm_start_joint.Statement.{statement}
