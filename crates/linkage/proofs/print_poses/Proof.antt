@@ -1,5 +1,4 @@
 use native.Mathlib.Omega.{arith}
-use borrow.Author.Needs.{needs}
 use Prim.Native.Nat.{_-_}
 use Rattle.linkage.proofs.print_poses.Statement.{statement}
 use Rattle.linkage.proofs.print_poses.Tie as tie

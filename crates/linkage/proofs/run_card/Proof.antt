@@ -1,5 +1,4 @@
 use native.Mathlib.Omega.{arith}
-use borrow.Author.Needs.{needs}
 use mathlib.Core.Path.{_≡_, sym, _∙_}
 use Rattle.card.specs.Checks.{checkOf}
 use Rattle.card.proofs.Accepted.{accepted}
