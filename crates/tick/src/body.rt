@@ -23,27 +23,10 @@ pub struct BodyState {
 
 impl BodyState {
     pub const REST: BodyState = BodyState {
-        position: Vec3 {
-            x: 0.0,
-            y: 0.0,
-            z: 0.0,
-        },
-        rotation: Quat {
-            x: 0.0,
-            y: 0.0,
-            z: 0.0,
-            w: 1.0,
-        },
-        linear_velocity: Vec3 {
-            x: 0.0,
-            y: 0.0,
-            z: 0.0,
-        },
-        angular_velocity: Vec3 {
-            x: 0.0,
-            y: 0.0,
-            z: 0.0,
-        },
+        position: Vec3::ZERO,
+        rotation: Quat::IDENTITY,
+        linear_velocity: Vec3::ZERO,
+        angular_velocity: Vec3::ZERO,
     };
 
     pub fn solver_body(self) -> SolverBody

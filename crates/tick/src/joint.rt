@@ -34,26 +34,10 @@ pub struct JointTotals {
 
 impl JointTotals {
     pub const ZERO: JointTotals = JointTotals {
-        first: Vec3 {
-            x: 0.0,
-            y: 0.0,
-            z: 0.0,
-        },
-        second: Vec3 {
-            x: 0.0,
-            y: 0.0,
-            z: 0.0,
-        },
-        third: Vec3 {
-            x: 0.0,
-            y: 0.0,
-            z: 0.0,
-        },
-        fourth: Vec3 {
-            x: 0.0,
-            y: 0.0,
-            z: 0.0,
-        },
+        first: Vec3::ZERO,
+        second: Vec3::ZERO,
+        third: Vec3::ZERO,
+        fourth: Vec3::ZERO,
     };
 
     fn finite(self) -> bool
