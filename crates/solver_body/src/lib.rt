@@ -45,10 +45,11 @@ pub struct SolverBodyInertia {
     pub translation_z_locked: bool,
 }
 
-fn unlocked(locked: bool, inv_mass: f32) -> f32
-    ensures { λ r. ⌜ r ≡ unlocked locked «inv_mass» ⌝ }
+// Nothing moves along a locked axis.
+pub fn unlocked(locked: bool, value: f32) -> f32
+    ensures { λ r. ⌜ r ≡ unlocked locked value ⌝ }
 {
-    if locked { 0.0 } else { inv_mass }
+    if locked { 0.0 } else { value }
 }
 
 impl SolverBodyInertia {

@@ -1,6 +1,5 @@
 // A moving body in a tick, but for its joints.
 ghost use mathlib.Core.Path.{_≡_};
-ghost use Rattle.solver_body.specs.Body.{unlocked};
 ghost use Rattle.tick.specs.Body.{solverBodyOf, unlockedVelocity, integrated, projected, finishedBody, tooFar, bodyFault};
 use crate::finite::quat_finite;
 use crate::finite::vec3_finite;
@@ -8,6 +7,7 @@ use scalar::abs;
 use solver_body::RigidBody;
 use solver_body::SolverBody;
 use solver_body::SolverBodyInertia;
+use solver_body::unlocked;
 use vector::Quat;
 use vector::Vec3;
 use xpbd_plugin::project_angular_velocity;
@@ -58,12 +58,6 @@ fn too_far(x: f32) -> bool
     ensures { λ r. ⌜ r ≡ tooFar x ⌝ }
 {
     abs(x) > 4096.0
-}
-
-fn unlocked(locked: bool, velocity: f32) -> f32
-    ensures { λ r. ⌜ r ≡ unlocked locked velocity ⌝ }
-{
-    if locked { 0.0 } else { velocity }
 }
 
 fn unlocked_velocity(inertia: SolverBodyInertia, velocity: Vec3) -> Vec3
