@@ -1,14 +1,15 @@
 -- The bodies and joints of a card as the solver has them: document 01, 'The card'.
 use Prim.Native.Nat.{ℕ, _+_, _*_}
-use mathlib.Core.Bool.{Bool, true, false}
+use mathlib.Core.Bool.{Bool, true}
 use mathlib.Core.List.{List, [], _∷_}
 use lib.ListN.{getD}
 use lib.Dec.{eqb, ltb}
 use lib.IntN.{ℤ, pos, _-ℤ_}
 use lib.Ieee.{Float}
-use Rattle.scalar.specs.Arith.{if_then_else_, f32, f0, f1, largest}
+use Rattle.scalar.specs.Arith.{if_then_else_}
 use Rattle.vector.specs.declared.Vec3.{Vec3}
 use Rattle.vector.specs.declared.SymmetricTensor.{SymmetricTensor}
+use Rattle.joints.specs.Motor.{disabledAngularMotor, disabledLinearMotor}
 use Rattle.joints.specs.declared.JointFrame.{JointFrame}
 use Rattle.joints.specs.declared.AngleLimitOption.{AngleLimitOption}
 use Rattle.joints.specs.declared.AngleLimitOption.the-variants as angle
@@ -104,20 +105,10 @@ modelOf motor a b =
     else if eqb motor 2 then AccelerationBased a b
     else ForceBased a b
 
--- the Rust's default: 5 Hz, critically damped
-abbrev defaultModel : MotorModel
-defaultModel = SpringDamper (f32 0x40a0_0000) f1
-
 unfoldable pub angularMotorAt : List ℕ → ℕ → ℕ → AngularMotor
 angularMotorAt card motor at =
     if eqb motor 0
-    then record {
-      enabled = false;
-      «target_velocity» = f0;
-      «target_position» = f0;
-      «max_torque» = largest;
-      «motor_model» = defaultModel;
-    }
+    then disabledAngularMotor
     else record {
       enabled = true;
       «target_velocity» = floatAt card at;
@@ -129,13 +120,7 @@ angularMotorAt card motor at =
 unfoldable pub linearMotorAt : List ℕ → ℕ → ℕ → LinearMotor
 linearMotorAt card motor at =
     if eqb motor 0
-    then record {
-      enabled = false;
-      «target_velocity» = f0;
-      «target_position» = f0;
-      «max_force» = largest;
-      «motor_model» = defaultModel;
-    }
+    then disabledLinearMotor
     else record {
       enabled = true;
       «target_velocity» = floatAt card at;

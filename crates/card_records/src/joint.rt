@@ -35,7 +35,6 @@ use joints::motor::MotorModel;
 use joints::prismatic::PrismaticJoint;
 use joints::revolute::RevoluteJoint;
 use joints::spherical::SphericalJoint;
-use scalar::MAX;
 
 pub enum CardJoint {
     Known(Joint),
@@ -106,16 +105,7 @@ fn angular_motor_at(card: &[u8], motor: u32, at: usize) -> AngularMotor
     ensures { λ r. ⌜ r ≡ angularMotorAt (now (card .entry)) motor at ⌝ }
 {
     if motor == 0 {
-        return AngularMotor {
-            enabled: false,
-            target_velocity: 0.0,
-            target_position: 0.0,
-            max_torque: MAX,
-            motor_model: MotorModel::SpringDamper {
-                frequency: 5.0,
-                damping_ratio: 1.0,
-            },
-        };
+        return AngularMotor::DISABLED;
     }
     AngularMotor {
         enabled: true,
@@ -132,16 +122,7 @@ fn linear_motor_at(card: &[u8], motor: u32, at: usize) -> LinearMotor
     ensures { λ r. ⌜ r ≡ linearMotorAt (now (card .entry)) motor at ⌝ }
 {
     if motor == 0 {
-        return LinearMotor {
-            enabled: false,
-            target_velocity: 0.0,
-            target_position: 0.0,
-            max_force: MAX,
-            motor_model: MotorModel::SpringDamper {
-                frequency: 5.0,
-                damping_ratio: 1.0,
-            },
-        };
+        return LinearMotor::DISABLED;
     }
     LinearMotor {
         enabled: true,
