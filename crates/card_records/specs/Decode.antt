@@ -76,13 +76,10 @@ centerOfMassAt card i = vec3At card (bodyFloats i + 4 * centerOfMassFloat)
 unfoldable pub bodyAt : List ℕ → ℕ → CardBody
 bodyAt card i =
     record {
-      anchored = bodyBits card i .anchored;
       position = vec3At card (bodyFloats i);
       rotation = quatAt card (bodyFloats i + 4 * rotationFloat);
-      «center_of_mass» = centerOfMassAt card i;
       «linear_velocity» = vec3At card (bodyFloats i + 4 * linearVelocityFloat);
       «angular_velocity» = vec3At card (bodyFloats i + 4 * angularVelocityFloat);
-      inertia = inertiaAt card i;
     }
 
 -- ---- a joint

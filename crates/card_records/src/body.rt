@@ -23,14 +23,12 @@ use vector::Quat;
 use vector::SymmetricTensor;
 use vector::Vec3;
 
+// A body of the card at the start.
 pub struct CardBody {
-    pub anchored: bool,
     pub position: Vec3,
     pub rotation: Quat,
-    pub center_of_mass: Vec3,
     pub linear_velocity: Vec3,
     pub angular_velocity: Vec3,
-    pub inertia: SolverBodyInertia,
 }
 
 fn tensor_at(card: &[u8], at: usize) -> SymmetricTensor
@@ -100,12 +98,9 @@ pub fn body_at(card: &[u8], i: usize) -> CardBody
 {
     let floats = HEADER_BYTES + BODY_BYTES * i + BODY_BITS;
     CardBody {
-        anchored: body_bits(card, i).anchored,
         position: vec3_at(card, floats),
         rotation: quat_at(card, floats + 4 * ROTATION),
-        center_of_mass: center_of_mass_at(card, i),
         linear_velocity: vec3_at(card, floats + 4 * LINEAR_VELOCITY),
         angular_velocity: vec3_at(card, floats + 4 * ANGULAR_VELOCITY),
-        inertia: inertia_at(card, i),
     }
 }
