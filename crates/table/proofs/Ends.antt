@@ -7,7 +7,7 @@ use lib.ListN.{length, getD, replicate, length-replicate}
 use lib.Seq.{sets}
 use lib.Dec.{T}
 use lib.Ieee.{Float}
-use Rattle.solver_body.specs.Body.{dummyBody}
+use Rattle.solver_body.specs.Body.{dummyBody, isValid}
 use Rattle.solver_body.specs.declared.SolverBody.{SolverBody}
 use Rattle.tick.specs.Body.{restingBody, bodyFault}
 use Rattle.tick.specs.Joint.{noTotals}
@@ -20,7 +20,7 @@ use Rattle.card_records.specs.State.{numbers3}
 use Rattle.card_records.proofs.Writes.{sets-append}
 use Rattle.table.specs.Loop.{after}
 use Rattle.table.specs.Tick.{bodyStateNumbers, totalsPlace, totalsNumbers, storeTotals}
-use Rattle.table.specs.Parts.{noTickBody, isValid, finishedOr, finishedAt, NewBodiesOf, storeNew}
+use Rattle.table.specs.Parts.{noTickBody, finishedOr, finishedAt, NewBodiesOf, storeNew}
 use Rattle.table.specs.declared.load.TickBody.{TickBody}
 use Rattle.table.proofs.Loops.{getD-in, after-done, fill, fill-length, fill-at}
 use Rattle.table.proofs.Turns.{unreadBody, unreadTickBody, unreadState, unreadTotals}

@@ -11,6 +11,7 @@ use lib.Ieee.{Float, lt, ofBits}
 use borrow.Author.Tests.{eq-eqb, ne-eqb}
 use Rattle.scalar.specs.Arith.{if_then_else_}
 use Rattle.scalar.specs.Scalar.{isFinite}
+use Rattle.solver_body.specs.Body.{isValid}
 use Rattle.solver_body.specs.declared.SolverBody.{SolverBody}
 use Rattle.tick.specs.Finite.{finite3, finite4}
 use Rattle.tick.specs.Body.{restingBody, tooFar, bodyFault}
@@ -27,7 +28,7 @@ use Rattle.card_records.proofs.Starting.{state-refused, state-accepted}
 use Rattle.table.specs.Loop.{after}
 use Rattle.table.specs.Tick.{bodyStateNumbers, storeTotals, anchoredAt, rigidAt, preSolve, firstBody, secondBody, putMoving, putSolved, solvedAt, stop, solveNext, before, newBody, newFault, storeBody, stored, finished, tickAccepted}
 use Rattle.table.specs.Run.{tickOf, tickNext, runOf}
-use Rattle.table.specs.Parts.{SoundCard, SoundState, tickBodyAt, noTickBody, TickBodies, isValid, finishedOr, finishedAt, NewBodiesOf, storeNew, tickChecked}
+use Rattle.table.specs.Parts.{SoundCard, SoundState, tickBodyAt, noTickBody, TickBodies, finishedOr, finishedAt, NewBodiesOf, storeNew, tickChecked}
 use Rattle.table.specs.declared.load.TickBody.{TickBody}
 use Rattle.table.specs.declared.solve.Solved.{Solved}
 use Rattle.table.specs.declared.store.NewBodies.{NewBodies}

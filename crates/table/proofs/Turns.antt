@@ -12,7 +12,7 @@ use borrow.Author.Tests.{eq-eqb, ne-eqb}
 use Rattle.scalar.specs.Arith.{if_then_else_}
 use Rattle.vector.specs.declared.Vec3.{Vec3}
 use Rattle.vector.specs.declared.Quat.{Quat}
-use Rattle.solver_body.specs.Body.{dummyBody}
+use Rattle.solver_body.specs.Body.{dummyBody, invalidIndex, isValid}
 use Rattle.joints.specs.declared.Joint.{Joint}
 use Rattle.joints.specs.declared.Joint.the-variants.{Fixed, Revolute, Prismatic, Spherical, Distance}
 use Rattle.solver_body.specs.declared.RigidBody.{RigidBody}
@@ -36,7 +36,7 @@ use Rattle.card_records.specs.Decode.{inertiaAt, angularMotorAt, linearMotorAt,
 use Rattle.card_records.specs.declared.joint.CardJoint.the-variants.{Unknown}
 use Rattle.table.specs.Loop.{after}
 use Rattle.table.specs.Tick.{bodyStateAt, noJoint, anchoredAt, putMoving, loadNext, knownJoint, loaded, warmStarted, firstBody, secondBody, preparedAt, pairAt, putPair, warmStartedAt, warmStartNext, integrateNext, preSolve, solvedAt, stop, solveNext, before}
-use Rattle.table.specs.Parts.{SoundCard, indexOf, tickBodyAt, noTickBody, TickBodies, isValid, moved, integratedOr, CardJoints, warmValueAt, warmStartedWith, solvedWith}
+use Rattle.table.specs.Parts.{SoundCard, indexOf, tickBodyAt, noTickBody, TickBodies, moved, integratedOr, CardJoints, warmValueAt, warmStartedWith, solvedWith}
 use Rattle.table.specs.declared.load.TickBody.{TickBody}
 use Rattle.table.specs.declared.solve.Solved.{Solved}
 use Rattle.table.proofs.Loops.{after-turn, after-kept, after-all, getD-in}
@@ -79,7 +79,7 @@ unreadTickBody =
 pub valid-as : (a : Bool) (i : ℕ) → i < maxBodies → isValid (indexOf a i) ≡ not a
 unfolding indexOf
 valid-as true i h = refl
-valid-as false i h = rw (ne-eqb i 4294967295 (λ e. omega arith))
+valid-as false i h = rw (ne-eqb i (invalidIndex .0) (λ e. omega arith))
 
 put-as : (a : Bool) (i : ℕ) → i < maxBodies → (bodies : List SolverBody) (d b : SolverBody)
     → set bodies i (moved (indexOf a i) (getD bodies i d) b) ≡ (if a then bodies else set bodies i b)

@@ -1,6 +1,6 @@
 -- What the parts of a tick ask for and hand to each other, for their own contracts: Tick.antt needs none of it.
 use Prim.Native.Nat.{ℕ, _*_, _≤_, _<_}
-use mathlib.Core.Bool.{Bool, false, not}
+use mathlib.Core.Bool.{Bool, false}
 use mathlib.Core.Path.{_≡_}
 use mathlib.Core.List.{List}
 use lib.ListN.{length, getD}
@@ -12,7 +12,7 @@ use Rattle.vector.specs.Vector.{origin}
 use Rattle.vector.specs.Rotation.{identity}
 use Rattle.vector.specs.declared.Vec3.{Vec3}
 use Rattle.joints.specs.declared.Joint.{Joint}
-use Rattle.solver_body.specs.Body.{dummyBody, dummyInertia}
+use Rattle.solver_body.specs.Body.{dummyBody, dummyInertia, invalidIndex, isValid}
 use Rattle.solver_body.specs.declared.SolverBody.{SolverBody}
 use Rattle.solver_body.specs.declared.SolverBodyIndex.{SolverBodyIndex}
 use Rattle.solver_body.specs.declared.BodyPair.{BodyPair}
@@ -48,7 +48,7 @@ SoundState h s = length s ≡ stateLength (h .bodies) (h .joints)
 
 -- an anchored body has no place among the solver's bodies
 unfoldable pub indexOf : Bool → ℕ → SolverBodyIndex
-indexOf anchored i = record { 0 = if anchored then 4294967295 else i }
+indexOf anchored i = if anchored then invalidIndex else record { 0 = i }
 
 unfoldable pub tickBodyAt : List ℕ → List Float → ℕ → TickBody
 tickBodyAt card s i =
@@ -57,7 +57,7 @@ tickBodyAt card s i =
 abbrev pub noTickBody : TickBody
 noTickBody =
     record {
-      index = record { 0 = 4294967295 };
+      index = invalidIndex;
       rigid = record { position = origin; rotation = identity; «center_of_mass» = origin };
       inertia = dummyInertia;
     }
@@ -66,9 +66,6 @@ noTickBody =
 pub record TickBodies (card : List ℕ) (s : List Float) (bodies : ℕ) (table : List TickBody) : Type 0 where
   pub places : length table ≡ maxBodies
   pub each : (i : ℕ) → i < bodies → getD table i noTickBody ≡ tickBodyAt card s i
-
-abbrev pub isValid : SolverBodyIndex → Bool
-isValid k = not (eqb (k .0) 4294967295)
 
 -- an anchored body stays as it is
 unfoldable pub moved : SolverBodyIndex → SolverBody → SolverBody → SolverBody
