@@ -66,7 +66,7 @@ fn quat_in(state: &[f32], at: usize) -> Quat
 }
 
 // The 13 numbers of body i.
-pub fn body_state_at(state: &[f32], i: usize) -> BodyState
+fn body_state_at(state: &[f32], i: usize) -> BodyState
     requires { ⌜ bodyNumbers * i + bodyNumbers ≤ length (now state) ⌝ }
     ensures { λ r. ⌜ r ≡ bodyStateAt (now (state .entry)) i ⌝ }
 {
@@ -110,7 +110,7 @@ pub fn moved(index: SolverBodyIndex, old: SolverBody, new: SolverBody) -> Solver
     if index.is_valid() { new } else { old }
 }
 
-pub fn tick_body_at(card: &[u8], h: Header, state: &[f32], i: usize) -> TickBody
+fn tick_body_at(card: &[u8], h: Header, state: &[f32], i: usize) -> TickBody
     requires { ⌜ SoundCard (now card) h × SoundState h (now state) × (i < h .bodies) ⌝ }
     ensures { λ r. ⌜ r ≡ tickBodyAt (now (card .entry)) (now (state .entry)) i ⌝ }
 {
