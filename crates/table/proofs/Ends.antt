@@ -22,7 +22,7 @@ use Rattle.table.specs.Loop.{after}
 use Rattle.table.specs.Tick.{bodyStateNumbers, totalsPlace, totalsNumbers, storeTotals}
 use Rattle.table.specs.Parts.{noTickBody, finishedOr, finishedAt, NewBodiesOf, storeNew}
 use Rattle.table.specs.declared.load.TickBody.{TickBody}
-use Rattle.table.proofs.Loops.{getD-in, after-done, fill, fill-length, fill-at}
+use Rattle.table.proofs.Loops.{getD-in, after-done, fill, fill-at}
 use Rattle.table.proofs.Turns.{unreadBody, unreadTickBody, unreadState, unreadTotals}
 
 module _ (table : List TickBody) (pre bodies : List SolverBody) (dt : Float) where
@@ -44,14 +44,10 @@ module _ (new : ℕ → BodyState) (n : ℕ) (few : n ≤ maxBodies) where
   abbrev filled : ℕ → List BodyState
   filled i = after (fill new) (replicate maxBodies restingBody) i
 
-  filled-length : (i : ℕ) → length (filled i) ≡ maxBodies
-  filled-length i = fill-length new (replicate maxBodies restingBody) i ∙ length-replicate maxBodies restingBody
-
-  pub new-stopped : (i : ℕ) (l : List BodyState) → i < n → l ≡ filled i → bodyFault (new i) ≡ true
+  pub new-stopped : (i : ℕ) (l : List BodyState) → i < n → bodyFault (new i) ≡ true
       → NewBodiesOf new n (record { stopped = true; bodies = l })
-  new-stopped i l h e f =
+  new-stopped i l h f =
       record {
-        places = ap (λ t. length t) e ∙ filled-length i;
         fault = sym (any-some (λ m. bodyFault (new m)) i n h f);
         each = λ x. absurd (true-not-false x);
       }
@@ -61,7 +57,6 @@ module _ (new : ℕ → BodyState) (n : ℕ) (few : n ≤ maxBodies) where
   new-done i l a b q e =
       let f = after-done (fill new) (replicate maxBodies restingBody) e a b in
       record {
-        places = ap (λ t. length t) e ∙ filled-length i;
         fault = any-done (λ m. bodyFault (new m)) q a b;
         each =
             λ _ m k.

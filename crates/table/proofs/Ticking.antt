@@ -4,7 +4,7 @@ use native.Mathlib.Omega.{arith}
 use mathlib.Core.Path.{_≡_, refl, sym, ap, subst, _∙_}
 use mathlib.Core.Bool.{Bool, true, false, not, _&&_}
 use mathlib.Core.List.{List, [], _∷_}
-use lib.ListN.{length, getD, replicate, length-set, length-replicate}
+use lib.ListN.{length, getD}
 use lib.Seq.{sets}
 use lib.Dec.{T, eqb, eqb→eq}
 use lib.Ieee.{Float, lt, ofBits}
@@ -15,9 +15,8 @@ use Rattle.solver_body.specs.Body.{isValid}
 use Rattle.solver_body.specs.declared.SolverBody.{SolverBody}
 use Rattle.tick.specs.Finite.{finite3, finite4}
 use Rattle.tick.specs.Body.{restingBody, tooFar, bodyFault}
-use Rattle.tick.specs.Joint.{noTotals, totalsOf, jointFinite}
 use Rattle.tick.specs.declared.body.BodyState.{BodyState}
-use Rattle.card.specs.Layout.{maxBodies, maxJoints, bodyNumbers, stateLength}
+use Rattle.card.specs.Layout.{bodyNumbers, stateLength}
 use Rattle.card.specs.Loop.{anyTo}
 use Rattle.card.specs.Records.{headerAt, dtOf}
 use Rattle.card.specs.Checks.{Refusal, refuse, firstOf, checkOf}
@@ -26,44 +25,14 @@ use Rattle.card.specs.declared.records.Header.{Header}
 use Rattle.card_records.specs.State.{numberFault, stateFault, orElse, checkStateOf, Answered, answered}
 use Rattle.card_records.proofs.Starting.{state-refused, state-accepted}
 use Rattle.table.specs.Loop.{after}
-use Rattle.table.specs.Tick.{bodyStateNumbers, storeTotals, anchoredAt, rigidAt, preSolve, firstBody, secondBody, putMoving, putSolved, solvedAt, stop, solveNext, before, newBody, newFault, storeBody, stored, finished, tickAccepted}
+use Rattle.table.specs.Tick.{bodyStateNumbers, storeTotals, anchoredAt, rigidAt, preSolve, before, newBody, newFault, storeBody, stored, finished, tickAccepted}
 use Rattle.table.specs.Run.{tickOf, tickNext, runOf}
 use Rattle.table.specs.Parts.{SoundCard, SoundState, tickBodyAt, noTickBody, TickBodies, finishedOr, finishedAt, NewBodiesOf, storeNew, tickChecked}
 use Rattle.table.specs.declared.load.TickBody.{TickBody}
 use Rattle.table.specs.declared.solve.Solved.{Solved}
 use Rattle.table.specs.declared.store.NewBodies.{NewBodies}
-use Rattle.table.proofs.Loops.{after-none, after-more, after-kept, after-all, after-same, any-same}
-use Rattle.table.proofs.Turns.{valid-as, moving-length, pre-length}
-
--- ---- the solve keeps the arrays' lengths
-
-pub record Places (σ : Solved) : Type 0 where
-  pub bodies : length (σ .bodies) ≡ maxBodies
-  pub totals : length (σ .totals) ≡ maxJoints
-
-module _ (card : List ℕ) (h : Header) (s : List Float) where
-  next-places : (u v : Bool) (σ τ : Solved) → Places σ → Places τ → Places (if u then σ else if v then τ else stop card h s σ)
-  next-places true v σ τ p q = p
-  next-places false true σ τ p q = q
-  next-places false false σ τ p q = record { bodies = p .bodies; totals = p .totals }
-
-  put-places : (j : ℕ) (σ : Solved) → Places σ → Places (putSolved card h s j (solvedAt card h s j (σ .bodies)) σ)
-  put-places j σ p =
-      let f = firstBody card h s j in
-      let r = solvedAt card h s j (σ .bodies) in
-      record {
-        bodies =
-            moving-length (anchoredAt card (secondBody card h s j)) (putMoving card f (r .bodies .body1) (σ .bodies)) (secondBody card h s j) (r .bodies .body2)
-            ∙ moving-length (anchoredAt card f) (σ .bodies) f (r .bodies .body1) ∙ p .bodies;
-        totals = length-set (σ .totals) j (totalsOf (r .joint)) ∙ p .totals;
-      }
-
-  pub places : (j : ℕ) → Places (before card h s j)
-  unfolding before solveNext
-  places j =
-      after-all (solveNext card h s) (record { stopped = false; bodies = preSolve card h s; totals = replicate maxJoints noTotals }) Places j
-      (record { bodies = pre-length card h s; totals = length-replicate maxJoints noTotals })
-      (λ m σ l p. next-places (σ .stopped) (jointFinite (solvedAt card h s m (σ .bodies))) σ (putSolved card h s m (solvedAt card h s m (σ .bodies)) σ) p (put-places m σ p))
+use Rattle.table.proofs.Loops.{after-none, after-more, after-kept, after-same, any-same}
+use Rattle.table.proofs.Turns.{valid-as}
 
 -- ---- the new numbers
 

@@ -120,7 +120,7 @@ module _ (card : List ℕ) (s : List Float) (n : ℕ) (few : n ≤ maxBodies) (t
 
 -- ---- the array keeps its length
 
-pub moving-length : (a : Bool) (bodies : List SolverBody) (i : ℕ) (b : SolverBody) → length (if a then bodies else set bodies i b) ≡ length bodies
+moving-length : (a : Bool) (bodies : List SolverBody) (i : ℕ) (b : SolverBody) → length (if a then bodies else set bodies i b) ≡ length bodies
 moving-length true bodies i b = refl
 moving-length false bodies i b = length-set bodies i b
 

@@ -83,7 +83,6 @@ finishedAt table pre bodies dt i = finishedOr (getD table i noTickBody) (getD pr
 
 -- the new numbers of n bodies, where none is at fault
 pub record NewBodiesOf (new : ℕ → BodyState) (n : ℕ) (r : NewBodies) : Type 0 where
-  pub places : length (r .bodies) ≡ maxBodies
   pub fault : r .stopped ≡ anyTo (λ i. bodyFault (new i)) n
   pub each : r .stopped ≡ false → (i : ℕ) → i < n → getD (r .bodies) i restingBody ≡ new i
 

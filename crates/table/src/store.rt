@@ -42,7 +42,7 @@ pub fn finish_bodies(
     pre_solve: [SolverBody; MAX_BODIES],
     solved: [SolverBody; MAX_BODIES],
 ) -> NewBodies
-    requires { ⌜ (h .bodies ≤ maxBodies) × (h .rate ≤ maxRate) × (length table ≡ maxBodies) × (length «pre_solve» ≡ maxBodies) × (length solved ≡ maxBodies) ⌝ }
+    requires { ⌜ (h .bodies ≤ maxBodies) × (h .rate ≤ maxRate) ⌝ }
     ensures { λ r. ⌜ NewBodiesOf (finishedAt table «pre_solve» solved (dtOf h)) (h .bodies) r ⌝ }
 {
     let count = h.bodies;
@@ -72,7 +72,7 @@ pub fn store_bodies(
     new: [BodyState; MAX_BODIES],
     state: &mut [f32],
 )
-    requires { ⌜ (count ≤ maxBodies) × (bodyNumbers * count ≤ length (now state)) × (length table ≡ maxBodies) × (length new ≡ maxBodies) ⌝ }
+    requires { ⌜ (count ≤ maxBodies) × (bodyNumbers * count ≤ length (now state)) ⌝ }
     ensures { λ _. ⌜ now (state .exit) ≡ after (storeNew table new) (now (state .entry)) count ⌝ }
 {
     let mut i = 0;
@@ -112,7 +112,7 @@ pub fn store_totals(
     totals: [JointTotals; MAX_JOINTS],
     state: &mut [f32],
 )
-    requires { ⌜ (joints ≤ maxJoints) × (totalsPlace count joints ≤ length (now state)) × (length totals ≡ maxJoints) ⌝ }
+    requires { ⌜ (joints ≤ maxJoints) × (totalsPlace count joints ≤ length (now state)) ⌝ }
     ensures { λ _. ⌜ now (state .exit) ≡ after (storeTotals count totals) (now (state .entry)) joints ⌝ }
 {
     let mut j = 0;

@@ -1,9 +1,6 @@
 use native.Mathlib.Omega.{arith}
 use borrow.Author.Needs.{needs}
-use mathlib.Core.Path.{sym, ap, subst, _∙_}
-use lib.ListN.{length}
-use Rattle.table.proofs.Turns.{pre-length}
-use Rattle.table.proofs.Ticking.{Places, places, accepted-stopped, accepted-fault, accepted-done}
+use Rattle.table.proofs.Ticking.{accepted-stopped, accepted-fault, accepted-done}
 use Rattle.table.proofs.run.tick_accepted.Statement.{statement}
 use Rattle.table.proofs.run.tick_accepted.Tie as tie
 
@@ -22,17 +19,6 @@ returns c =
     let s = c .before in
     accepted-stopped _ _ _ (start s .pre .0) (loaded s .tick-bodies .ensures) (integrated s .integrate-bodies .ensures) (s .solve-joints .ensures) (c .if1 .taken)
 
-finish-bodies-requires : tie.Need-finish-bodies-requires
-finish-bodies-requires c κs =
-    let s = c .before .before in
-    let S = start s .pre .0 in (
-      S .few-bodies,
-      S .most-rate,
-      loaded s .tick-bodies .ensures .places,
-      ap (λ l. length l) (integrated s .integrate-bodies .ensures) ∙ pre-length _ _ _,
-      subst Places (sym (s .solve-joints .ensures)) (places _ _ _ _) .bodies,
-    )
-
 returns-2 : tie.Need-returns-2
 returns-2 c =
     let s = c .before .before .before .before in
@@ -43,16 +29,13 @@ store-bodies-requires : tie.Need-store-bodies-requires
 store-bodies-requires c κs =
     let s = c .before .before .before .before .before .before .before in
     let p = start s .pre in
-    (p .0 .few-bodies, omega (arith, p .1), loaded s .tick-bodies .ensures .places, c .before .before .before .before .finish-bodies .ensures .places)
+    (p .0 .few-bodies, omega (arith, p .1))
 
 store-totals-requires : tie.Need-store-totals-requires
 store-totals-requires c κs =
     let s = c .before .before .before .before .before .before .before .before .before .before .before in
-    let p = start s .pre in (
-      p .0 .few-joints,
-      omega (arith, p .1, c .before .before .before .store-bodies .kept .1 .1 .1 .0),
-      subst Places (sym (s .solve-joints .ensures)) (places _ _ _ _) .totals,
-    )
+    let p = start s .pre in
+    (p .0 .few-joints, omega (arith, p .1, c .before .before .before .store-bodies .kept .1 .1 .1 .0))
 
 returns-3 : tie.Need-returns-3
 returns-3 c =
@@ -71,5 +54,5 @@ tick-accepted-spec =
     (λ c κs. let p = c .before .before .before .before .before .before .before .pre in (p .0, p .1, c .before .before .before .tick-bodies .ensures, c .before .start-bodies .ensures, p .2))
     (λ c κs. let p = c .before .before .before .before .before .before .before .before .before .pre in (p .0, c .before .before .before .before .before .tick-bodies .ensures, c .before .warm-start-joints .ensures))
     (λ c κs. let p = c .before .before .before .before .before .before .before .before .before .before .before .pre in (p .0, p .1, c .before .before .before .before .before .before .before .tick-bodies .ensures, c .before .integrate-bodies .ensures, p .2))
-    (λ c. search needs) returns finish-bodies-requires (λ c. search needs) returns-2 store-bodies-requires
+    (λ c. search needs) returns (λ c κs. let S = start (c .before .before) .pre .0 in (S .few-bodies, S .most-rate)) (λ c. search needs) returns-2 store-bodies-requires
     store-totals-requires (λ c. search needs) returns-3)

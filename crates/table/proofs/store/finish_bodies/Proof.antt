@@ -35,15 +35,17 @@ returns c =
     let l = k .before .loop in
     let d = c .before .before .before .before .before .before .before .before .dt .ensures in
     let p = c .before .before .before .before .before .before .before .before .before .pre in
-    let e = c .before .before .finished-or .ensures ∙ finish-is _ _ _ _ (l .i) (inside k) (p .2) (p .3) (p .4) in
-    rw (← d) (new-stopped _ _ (p .0) _ _ (k .loop-test .taken) (l .inv .2) (ap bodyFault (sym e) ∙ sym (c .before .fault .ensures) ∙ c .if1 .taken))
+    let g = c .before .before .before .before .before .before .before .before .before .good in
+    let e = c .before .before .finished-or .ensures ∙ finish-is _ _ _ _ (l .i) (inside k) (g .1 .0 .1 .0 .1) (g .1 .1 .0 .1 .0 .1) (g .1 .1 .1 .0 .1 .0 .1) in
+    rw (← d) (new-stopped _ _ (p .0) _ _ (k .loop-test .taken) (ap bodyFault (sym e) ∙ sym (c .before .fault .ensures) ∙ c .if1 .taken))
 
 loop-again : tie.Need-loop-again Inv-loop μ-loop
 loop-again c =
     let k = c .before .before .before .before .before .before in
     let l = k .before .loop in
     let p = c .before .before .before .before .before .before .before .before .before .pre in
-    let e = c .before .before .finished-or .ensures ∙ finish-is _ _ _ _ (l .i) (inside k) (p .2) (p .3) (p .4) in (
+    let g = c .before .before .before .before .before .before .before .before .before .good in
+    let e = c .before .before .finished-or .ensures ∙ finish-is _ _ _ _ (l .i) (inside k) (g .1 .0 .1 .0 .1) (g .1 .1 .0 .1 .0 .1) (g .1 .1 .1 .0 .1 .0 .1) in (
       omega (arith, l .inv .0, k .loop-test .taken),
       any-more _ _ (l .inv .1) (ap bodyFault (sym e) ∙ sym (c .before .fault .ensures) ∙ c .if1 .left),
       after-turn _ _ (l .inv .2) (rw e),

@@ -31,7 +31,7 @@ loop-again c =
     let w = c .before .before .write-body .ensures in (
       omega (arith, l .inv .0, k .loop-test .taken),
       rw w (simp length-set (l .inv .1)),
-      after-turn _ _ (l .inv .2) (store-turn (a .args .t2) (a .args .t3) (l .i) (inside k) (a .pre .2) (a .pre .3) (l .state) (c .before .before .before .before .before .before .is-valid .ensures) (c .before .before .before .before .before .if1 .taken) w),
+      after-turn _ _ (l .inv .2) (store-turn (a .args .t2) (a .args .t3) (l .i) (inside k) (a .good .1 .0 .1 .0 .1) (a .good .1 .1 .0 .1 .0 .1) (l .state) (c .before .before .before .before .before .before .is-valid .ensures) (c .before .before .before .before .before .if1 .taken) w),
     )
 
 loop-again-2 : tie.Need-loop-again-2 Inv-loop μ-loop
@@ -41,7 +41,7 @@ loop-again-2 c =
     let a = c .before .before .before .before .before .before in (
       omega (arith, l .inv .0, k .loop-test .taken),
       l .inv .1,
-      after-turn _ _ (l .inv .2) (store-skip (a .args .t2) (a .args .t3) (l .i) (inside k) (a .pre .2) (a .pre .3) (l .state) (c .before .is-valid .ensures) (c .if1 .left)),
+      after-turn _ _ (l .inv .2) (store-skip (a .args .t2) (a .args .t3) (l .i) (inside k) (a .good .1 .0 .1 .0 .1) (a .good .1 .1 .0 .1 .0 .1) (l .state) (c .before .is-valid .ensures) (c .if1 .left)),
     )
 
 same-length : tie.Need-same-length Inv-loop μ-loop

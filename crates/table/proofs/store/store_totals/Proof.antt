@@ -26,7 +26,7 @@ loop-again c =
     let w = c .before .before .write-totals .ensures in (
       omega (arith, l .inv .0, k .loop-test .taken),
       rw w (simp length-set (l .inv .1)),
-      after-turn _ _ (l .inv .2) (totals-turn (a .args .count) (a .args .t3) (l .j) (omega (arith, k .loop-test .taken, a .pre .0)) (a .pre .2) (l .state) w),
+      after-turn _ _ (l .inv .2) (totals-turn (a .args .count) (a .args .t3) (l .j) (omega (arith, k .loop-test .taken, a .pre .0)) (a .good .1 .1 .0 .1 .0 .1) (l .state) w),
     )
 
 same-length : tie.Need-same-length Inv-loop μ-loop
