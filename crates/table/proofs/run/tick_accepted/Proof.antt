@@ -29,7 +29,7 @@ store-bodies-requires : tie.Need-store-bodies-requires
 store-bodies-requires c κs =
     let s = c .before .before .before .before .before .before .before in
     let p = start s .pre in
-    (p .0 .few-bodies, omega (arith, p .1))
+    (omega (arith, p .0 .few-bodies), omega (arith, p .1))
 
 store-totals-requires : tie.Need-store-totals-requires
 store-totals-requires c κs =
