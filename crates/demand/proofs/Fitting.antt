@@ -126,7 +126,7 @@ module _ (card : List ℕ) (h : Header) (s : List Float) where
   next-fit j σ f =
       let solved = solvedAt card h s j (σ .bodies) in
       either (λ (τ : Solved). FitAll (τ .bodies)) (σ .stopped) σ _ f
-      (either (λ (τ : Solved). FitAll (τ .bodies)) (jointFinite solved) (putSolved card h s j solved σ) (stop card h s σ) (solve-fit j (σ .bodies) f) f)
+      (either (λ (τ : Solved). FitAll (τ .bodies)) (jointFinite solved) (putSolved card h s j solved σ) (stop σ) (solve-fit j (σ .bodies) f) f)
 
   -- what joint j finds
   pub before-fit : (j : ℕ) → FitAll (before card h s j .bodies)

@@ -47,7 +47,7 @@ module _ (card : List ℕ) (h : Header) (s : List Float) where
   unfolding solveNext
   next-live j σ k = go (σ .stopped) (jointFinite (solvedAt card h s j (σ .bodies))) refl k
     where
-      go : (u v : Bool) → σ .stopped ≡ u → Live (if u then σ else if v then putSolved card h s j (solvedAt card h s j (σ .bodies)) σ else stop card h s σ) → Live σ × T v
+      go : (u v : Bool) → σ .stopped ≡ u → Live (if u then σ else if v then putSolved card h s j (solvedAt card h s j (σ .bodies)) σ else stop σ) → Live σ × T v
       go true v e k = absurd (subst (λ (b : Bool). T (not b)) e k)
       go false true e k = (subst (λ (b : Bool). T (not b)) (sym e) tt, tt)
       go false false e k = absurd k

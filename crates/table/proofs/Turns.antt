@@ -291,12 +291,12 @@ module _ (card : List ℕ) (h : Header) (s : List Float) (S : SoundCard card h) 
     -- the last
     pub solve-stop : {b : JointBits} (totals : List JointTotals) {r : JointResult} → b ≡ jointBits card (h .bodies) j
         → live bodies totals ≡ before card h s j → r ≡ solvedWith (heldJoint j) h (tickBody (b .body1)) (tickBody (b .body2)) (pairOf b bodies)
-        → not (r .finite) ≡ true → stop card h s (live bodies totals) ≡ before card h s (h .joints)
+        → not (r .finite) ≡ true → stop (live bodies totals) ≡ before card h s (h .joints)
     unfolding before solveNext resultOf
     solve-stop {b} totals {r} eb inv er ef =
         let e = (rw eb at er) ∙ solved-is in
         let f = sym (ap (λ (r : JointResult). r .finite) e) ∙ not-yes (r .finite) ef in
-        let last : stop card h s (live bodies totals) ≡ after (solveNext card h s) (live (preSolve card h s) (replicate maxJoints noTotals)) (j + 1) =
+        let last : stop (live bodies totals) ≡ after (solveNext card h s) (live (preSolve card h s) (replicate maxJoints noTotals)) (j + 1) =
         after-turn (solveNext card h s) (live (preSolve card h s) (replicate maxJoints noTotals)) inv (rw f) in
         last
         ∙ sym (after-kept (solveNext card h s) (live (preSolve card h s) (replicate maxJoints noTotals)) (j + 1) (h .joints) (omega arith) (λ m. rw (← last)))

@@ -100,6 +100,9 @@ putMoving card i b bodies = if anchoredAt card i then bodies else set bodies i b
 abbrev pub loadNext : List ℕ → List Float → ℕ → List SolverBody → List SolverBody
 loadNext card s i bodies = putMoving card i (solverBodyOf (bodyStateAt s i)) bodies
 
+abbrev pub stop : Solved → Solved
+stop σ = record { stopped = true; bodies = σ .bodies; totals = σ .totals }
+
 module _ (card : List ℕ) (h : Header) (s : List Float) where
   -- ---- joint j
 
@@ -161,9 +164,6 @@ module _ (card : List ℕ) (h : Header) (s : List Float) where
   abbrev pub putSolved : ℕ → JointSolved → Solved → Solved
   putSolved j solved σ =
       record { stopped = false; bodies = putPair j (solved .bodies) (σ .bodies); totals = set (σ .totals) j (totalsOf (solved .joint)) }
-
-  abbrev pub stop : Solved → Solved
-  stop σ = record { stopped = true; bodies = σ .bodies; totals = σ .totals }
 
   -- refusal 13: a joint's solve whose numbers are not finite is the last
   unfoldable pub solveNext : ℕ → Solved → Solved
