@@ -1,26 +1,26 @@
 -- The new numbers of the bodies, from the arrays.
-use Prim.Native.Nat.{ℕ, _+_, _*_, _≤_, _<_}
+use Prim.Native.Nat.{ℕ, _+_, _≤_, _<_}
 use mathlib.Core.Path.{_≡_, sym, ap, subst, _∙_}
-use mathlib.Core.Bool.{Bool, true, false}
+use mathlib.Core.Bool.{true, false}
 use mathlib.Core.List.{List, _++_}
 use lib.ListN.{length, getD, replicate, length-replicate}
 use lib.Seq.{sets}
 use lib.Dec.{T}
 use lib.Ieee.{Float}
-use Rattle.solver_body.specs.Body.{dummyBody, isValid}
+use Rattle.solver_body.specs.Body.{dummyBody}
 use Rattle.solver_body.specs.declared.SolverBody.{SolverBody}
 use Rattle.tick.specs.Body.{restingBody, bodyFault}
 use Rattle.tick.specs.Joint.{noTotals}
 use Rattle.tick.specs.declared.body.BodyState.{BodyState}
 use Rattle.tick.specs.declared.joint.JointTotals.{JointTotals}
-use Rattle.card.specs.Layout.{maxBodies, maxJoints, bodyNumbers}
+use Rattle.card.specs.Layout.{maxBodies, maxJoints}
 use Rattle.card.specs.Loop.{anyTo}
 use Rattle.card.proofs.Loops.{any-some, any-done}
 use Rattle.card_records.specs.State.{numbers3}
 use Rattle.card_records.proofs.Writes.{sets-append}
 use Rattle.table.specs.Loop.{after}
-use Rattle.table.specs.Tick.{bodyStateNumbers, totalsPlace, totalsNumbers, storeTotals}
-use Rattle.table.specs.Parts.{noTickBody, finishedOr, finishedAt, NewBodiesOf, storeNew}
+use Rattle.table.specs.Tick.{totalsPlace, totalsNumbers, storeTotals}
+use Rattle.table.specs.Parts.{noTickBody, finishedOr, finishedAt, NewBodiesOf, storeMoving, storeNew}
 use Rattle.table.specs.declared.load.TickBody.{TickBody}
 use Rattle.table.proofs.Loops.{getD-in, after-done, fill, fill-at}
 use Rattle.table.proofs.Turns.{unreadBody, unreadTickBody, unreadState, unreadTotals}
@@ -66,16 +66,10 @@ module _ (new : ℕ → BodyState) (n : ℕ) (few : n ≤ maxBodies) where
 
 -- ---- the writes
 
-module _ (table : List TickBody) (new : List BodyState) (i : ℕ) (h : i < maxBodies) (e₁ : length table ≡ maxBodies) (e₂ : length new ≡ maxBodies) (s : List Float) where
-  index-read : getD table i unreadTickBody .index ≡ getD table i noTickBody .index
-  index-read = ap (λ (t : TickBody). t .index) (getD-in table i unreadTickBody noTickBody (rw e₁ h))
-
-  pub store-turn : {k : Bool} {t : List Float} → k ≡ isValid (getD table i unreadTickBody .index) → k ≡ true
-      → t ≡ sets s (bodyNumbers * i) (bodyStateNumbers (getD new i unreadState)) → t ≡ storeNew table new i s
-  store-turn {k} ek et es = rw (es, getD-in new i unreadState restingBody (rw e₂ h), ← index-read, ← ek, et)
-
-  pub store-skip : {k : Bool} → k ≡ isValid (getD table i unreadTickBody .index) → k ≡ false → s ≡ storeNew table new i s
-  store-skip {k} ek et = rw (← index-read, ← ek, et)
+pub body-turn : (table : List TickBody) (new : List BodyState) (i : ℕ) → i < maxBodies → length table ≡ maxBodies → length new ≡ maxBodies
+    → (s : List Float) {t : List Float} → t ≡ storeMoving (getD table i unreadTickBody) (getD new i unreadState) i s → t ≡ storeNew table new i s
+body-turn table new i h e₁ e₂ s et =
+    rw (et, getD-in table i unreadTickBody noTickBody (rw e₁ h), getD-in new i unreadState restingBody (rw e₂ h))
 
 -- a joint's four totals, one behind the other
 pub totals-written : (u : JointTotals) (s : List Float) (at : ℕ) {s₁ s₂ s₃ s₄ : List Float}

@@ -86,9 +86,12 @@ pub record NewBodiesOf (new : ℕ → BodyState) (n : ℕ) (r : NewBodies) : Typ
   pub fault : r .stopped ≡ anyTo (λ i. bodyFault (new i)) n
   pub each : r .stopped ≡ false → (i : ℕ) → i < n → getD (r .bodies) i restingBody ≡ new i
 
+-- body i's new numbers, where it moves
+abbrev pub storeMoving : TickBody → BodyState → ℕ → List Float → List Float
+storeMoving t b i s = if isValid (t .index) then sets s (bodyNumbers * i) (bodyStateNumbers b) else s
+
 abbrev pub storeNew : List TickBody → List BodyState → ℕ → List Float → List Float
-storeNew table new i s =
-    if isValid (getD table i noTickBody .index) then sets s (bodyNumbers * i) (bodyStateNumbers (getD new i restingBody)) else s
+storeNew table new i = storeMoving (getD table i noTickBody) (getD new i restingBody) i
 
 -- ---- joints
 

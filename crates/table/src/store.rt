@@ -7,7 +7,7 @@ ghost use Rattle.card.specs.Layout.{maxBodies, maxJoints, maxRate, bodyNumbers,
 ghost use Rattle.card.specs.Records.{dtOf};
 ghost use Rattle.table.specs.Loop.{after};
 ghost use Rattle.table.specs.Tick.{totalsPlace, totalsNumbers, storeTotals};
-ghost use Rattle.table.specs.Parts.{finishedOr, finishedAt, NewBodiesOf, storeNew};
+ghost use Rattle.table.specs.Parts.{finishedOr, finishedAt, NewBodiesOf, storeMoving, storeNew};
 use crate::load::TickBody;
 use card::layout::BODY_NUMBERS;
 use card::layout::JOINT_NUMBERS;
@@ -66,6 +66,23 @@ pub fn finish_bodies(
     }
 }
 
+// The new numbers of a body that moves.
+fn store_body(state: &mut [f32], i: usize, t: TickBody, b: BodyState)
+    requires { ⌜ bodyNumbers * i + bodyNumbers ≤ length (now state) ⌝ }
+    ensures { λ _. ⌜ now (state .exit) ≡ storeMoving t b i (now (state .entry)) ⌝ }
+{
+    if t.index.is_valid() {
+        write_body(
+            state,
+            i,
+            b.position,
+            b.rotation,
+            b.linear_velocity,
+            b.angular_velocity,
+        );
+    }
+}
+
 pub fn store_bodies(
     count: usize,
     table: [TickBody; MAX_BODIES],
@@ -77,20 +94,7 @@ pub fn store_bodies(
 {
     let mut i = 0;
     while i < count {
-        let t = table[i];
-        if t.index.is_valid() {
-            let b = new[i];
-            write_body(
-                state,
-                i,
-                b.position,
-                b.rotation,
-                b.linear_velocity,
-                b.angular_velocity,
-            );
-            i += 1;
-            continue;
-        }
+        store_body(state, i, table[i], new[i]);
         i += 1;
     }
 }

@@ -1,12 +1,12 @@
 use Prim.Native.Nat.{_-_, _≤_, _<_}
 use native.Mathlib.Omega.{arith}
-use mathlib.Core.Path.{_≡_, refl, sym}
-use lib.ListN.{length, length-set}
+use mathlib.Core.Path.{_≡_, refl, sym, _∙_}
+use lib.ListN.{length}
 use Rattle.card.specs.Layout.{maxBodies}
 use Rattle.table.specs.Loop.{after}
 use Rattle.table.specs.Parts.{storeNew}
 use Rattle.table.proofs.Loops.{after-none, after-turn, after-done}
-use Rattle.table.proofs.Ends.{store-turn, store-skip}
+use Rattle.table.proofs.Ends.{body-turn}
 use Rattle.table.proofs.store.store_bodies.Statement.{statement}
 use Rattle.table.proofs.store.store_bodies.Tie as tie
 
@@ -25,23 +25,13 @@ loop-holds c = (omega arith, refl, sym (after-none _ _))
 
 loop-again : tie.Need-loop-again Inv-loop μ-loop
 loop-again c =
-    let k = c .before .before .before .before .before .before .before .before in
+    let k = c .before .before .before .before .before .before in
     let l = k .before .loop in
-    let a = c .before .before .before .before .before .before .before .before .before .before .before in
-    let w = c .before .before .write-body .ensures in (
+    let a = k .before .before .before in
+    let w = c .before .before .store-body in (
       omega (arith, l .inv .0, k .loop-test .taken),
-      rw w (simp length-set (l .inv .1)),
-      after-turn _ _ (l .inv .2) (store-turn (a .args .t2) (a .args .t3) (l .i) (inside k) (a .good .1 .0 .1 .0 .1) (a .good .1 .1 .0 .1 .0 .1) (l .state) (c .before .before .before .before .before .before .is-valid .ensures) (c .before .before .before .before .before .if1 .taken) w),
-    )
-
-loop-again-2 : tie.Need-loop-again-2 Inv-loop μ-loop
-loop-again-2 c =
-    let k = c .before .before .before in
-    let l = k .before .loop in
-    let a = c .before .before .before .before .before .before in (
-      omega (arith, l .inv .0, k .loop-test .taken),
-      l .inv .1,
-      after-turn _ _ (l .inv .2) (store-skip (a .args .t2) (a .args .t3) (l .i) (inside k) (a .good .1 .0 .1 .0 .1) (a .good .1 .1 .0 .1 .0 .1) (l .state) (c .before .is-valid .ensures) (c .if1 .left)),
+      w .kept .0 ∙ l .inv .1,
+      after-turn _ _ (l .inv .2) (body-turn (a .args .t2) (a .args .t3) (l .i) (inside k) (a .good .1 .0 .1 .0 .1) (a .good .1 .1 .0 .1 .0 .1) (l .state) (w .ensures)),
     )
 
 same-length : tie.Need-same-length Inv-loop μ-loop
@@ -54,10 +44,9 @@ pub store-bodies-spec : {M : Type 1} → statement M
 store-bodies-spec =
     tie.close
     (tie.spec Inv-loop μ-loop
-    loop-holds (λ c. omega (arith, inside c)) (λ c. omega (arith, inside c)) (λ _ _. tt)
-    (λ c. omega (arith, inside (c .before .before .before))) (λ c. omega (arith, inside (c .before .before .before)))
-    (λ c κs. let l = c .before .before .before .before .before .before .loop in omega (arith, c .before .before .before .before .before .loop-test .taken, l .inv .1, c .before .before .before .before .before .before .before .before .pre .1))
-    (λ c. omega (arith, inside (c .before .before .before .before .before .before .before .before)))
-    (λ c. omega (arith, c .before .before .before .before .before .before .before .before .loop-test .taken)) loop-again
-    (λ c. omega (arith, inside (c .before .before .before)))
-    (λ c. omega (arith, c .before .before .before .loop-test .taken)) loop-again-2 same-length returns)
+    loop-holds (λ c. omega (arith, inside (c .before))) (λ c. omega (arith, inside (c .before)))
+    (λ c. omega (arith, inside (c .before .before))) (λ c. omega (arith, inside (c .before .before)))
+    (λ c κs. let l = c .before .before .before .before .loop in omega (arith, c .before .before .before .loop-test .taken, l .inv .1, c .before .before .before .before .before .before .pre .1))
+    (λ c. omega (arith, inside (c .before .before .before .before .before .before)))
+    (λ c. omega (arith, inside (c .before .before .before .before .before .before)))
+    loop-again same-length returns)
