@@ -1,5 +1,5 @@
 // Ticks of a card: the public calls `tick` and `run`.
-pub mod load;
+mod load;
 pub mod run;
-pub mod solve;
-pub mod store;
+mod solve;
+mod store;
