@@ -20,9 +20,8 @@ use Rattle.card_records.specs.State.{startState, checkStateOf, Answered, answer
 use Rattle.card.specs.declared.records.Header.{Header}
 use Rattle.tick.specs.Joint.{noTotals}
 use Rattle.table.specs.Loop.{after}
-use Rattle.table.specs.Tick.{totalsPlace, bodyStateNumbers, totalsNumbers, newBody, newFault, storeBody, storeTotals, stored, before, finished, tickAccepted}
+use Rattle.table.specs.Tick.{Solved, totalsPlace, bodyStateNumbers, totalsNumbers, newBody, newFault, storeBody, storeTotals, stored, before, finished, tickAccepted}
 use Rattle.table.specs.Run.{tickOf, tickNext, runOf}
-use Rattle.table.specs.declared.solve.Solved.{Solved}
 use Rattle.demand.specs.Demand.{Call, start, tick, ticks, bytesOf, leaves, afterCalls, CardOrRefused, AnchoredKept}
 use Rattle.card_records.proofs.Starting.{start-refused}
 use Rattle.card_records.proofs.StartState.{start-body}

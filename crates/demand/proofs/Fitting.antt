@@ -30,8 +30,7 @@ use Rattle.card.specs.declared.records.Header.{Header}
 use Rattle.tick.specs.Body.{solverBodyOf, integrated}
 use Rattle.tick.specs.Joint.{noTotals, jointFinite}
 use Rattle.tick.specs.declared.body.BodyState.{BodyState}
-use Rattle.table.specs.Tick.{bodyStateAt, firstBody, secondBody, inertiasAt, preparedAt, putMoving, pairAt, putPair, loadNext, warmStartNext, integrateNext, loaded, warmStarted, preSolve, solvedAt, putSolved, stop, solveNext, before}
-use Rattle.table.specs.declared.solve.Solved.{Solved}
+use Rattle.table.specs.Tick.{Solved, bodyStateAt, firstBody, secondBody, inertiasAt, preparedAt, putMoving, pairAt, putPair, loadNext, warmStartNext, integrateNext, loaded, warmStarted, preSolve, solvedAt, putSolved, stop, solveNext, before}
 use Rattle.table.proofs.Loops.{after-all}
 use Rattle.demand.proofs.Loops.{either}
 

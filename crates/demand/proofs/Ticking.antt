@@ -22,9 +22,8 @@ use Rattle.card_records.specs.State.{checkStateOf, answered}
 use Rattle.card.specs.declared.records.Header.{Header}
 use Rattle.tick.specs.Joint.{noTotals, jointFinite}
 use Rattle.table.specs.Loop.{after}
-use Rattle.table.specs.Tick.{preparedAt, pairAt, preSolve, solvedAt, putSolved, stop, solveNext, before, newFault, stored, finished, tickAccepted}
+use Rattle.table.specs.Tick.{Solved, preparedAt, pairAt, preSolve, solvedAt, putSolved, stop, solveNext, before, newFault, stored, finished, tickAccepted}
 use Rattle.table.specs.Run.{tickOf}
-use Rattle.table.specs.declared.solve.Solved.{Solved}
 use Rattle.table.proofs.Ticking.{card-passed}
 use Rattle.demand.specs.Trace.{solveAt, settingAt, stepsAt, startAt, eventsAt}
 use Rattle.demand.proofs.Loops.{after-back}

@@ -1,26 +1,22 @@
 -- The new numbers of the bodies, from the arrays.
 use Prim.Native.Nat.{ℕ, _+_, _≤_, _<_}
-use mathlib.Core.Path.{_≡_, sym, ap, subst, _∙_}
-use mathlib.Core.Bool.{true, false}
+use mathlib.Core.Path.{_≡_, ap, _∙_}
 use mathlib.Core.List.{List, _++_}
 use lib.ListN.{length, getD, replicate, length-replicate}
 use lib.Seq.{sets}
-use lib.Dec.{T}
 use lib.Ieee.{Float}
 use Rattle.solver_body.specs.Body.{dummyBody}
 use Rattle.solver_body.specs.declared.SolverBody.{SolverBody}
-use Rattle.tick.specs.Body.{restingBody, bodyFault}
+use Rattle.tick.specs.Body.{restingBody}
 use Rattle.tick.specs.Joint.{noTotals}
 use Rattle.tick.specs.declared.body.BodyState.{BodyState}
 use Rattle.tick.specs.declared.joint.JointTotals.{JointTotals}
 use Rattle.card.specs.Layout.{maxBodies, maxJoints}
-use Rattle.card.specs.Loop.{anyTo}
-use Rattle.card.proofs.Loops.{any-some, any-done}
 use Rattle.card_records.specs.State.{numbers3}
 use Rattle.card_records.proofs.Writes.{sets-append}
 use Rattle.table.specs.Loop.{after}
 use Rattle.table.specs.Tick.{totalsPlace, totalsNumbers, storeTotals}
-use Rattle.table.specs.Parts.{noTickBody, finishedOr, finishedAt, NewBodiesOf, storeMoving, storeNew}
+use Rattle.table.specs.Parts.{noTickBody, finishedOr, finishedAt, storeMoving, storeNew}
 use Rattle.table.specs.declared.load.TickBody.{TickBody}
 use Rattle.table.proofs.Loops.{getD-in, after-done, fill, fill-at}
 use Rattle.table.proofs.Turns.{unreadBody, unreadTickBody, unreadState, unreadTotals}
@@ -37,39 +33,20 @@ module _ (table : List TickBody) (pre bodies : List SolverBody) (dt : Float) whe
         getD-in bodies i unreadBody dummyBody (rw e₃ h),
       )
 
-true-not-false : true ≡ false → ⊥
-true-not-false e = subst T e tt
-
-module _ (new : ℕ → BodyState) (n : ℕ) (few : n ≤ maxBodies) where
-  abbrev filled : ℕ → List BodyState
-  filled i = after (fill new) (replicate maxBodies restingBody) i
-
-  pub new-stopped : (i : ℕ) (l : List BodyState) → i < n → bodyFault (new i) ≡ true
-      → NewBodiesOf new n (record { stopped = true; bodies = l })
-  new-stopped i l h f =
-      record {
-        fault = sym (any-some (λ m. bodyFault (new m)) i n h f);
-        each = λ x. absurd (true-not-false x);
-      }
-
-  pub new-done : (i : ℕ) (l : List BodyState) → i ≤ n → n ≤ i → anyTo (λ m. bodyFault (new m)) i ≡ false → l ≡ filled i
-      → NewBodiesOf new n (record { stopped = false; bodies = l })
-  new-done i l a b q e =
-      let f = after-done (fill new) (replicate maxBodies restingBody) e a b in
-      record {
-        fault = any-done (λ m. bodyFault (new m)) q a b;
-        each =
-            λ _ m k.
-            ap (λ t. getD t m restingBody) f
-            ∙ fill-at new (replicate maxBodies restingBody) restingBody m n k (rw (length-replicate maxBodies restingBody) few);
-      }
+-- what the loop has worked out, at its end
+pub new-each : (new : ℕ → BodyState) (n : ℕ) → n ≤ maxBodies → {i : ℕ} {l : List BodyState} → l ≡ after (fill new) (replicate maxBodies restingBody) i → i ≤ n → n ≤ i
+    → (m : ℕ) → m < n → getD l m restingBody ≡ new m
+new-each new n few e a b m k =
+    ap (λ t. getD t m restingBody) (after-done (fill new) (replicate maxBodies restingBody) e a b)
+    ∙ fill-at new (replicate maxBodies restingBody) restingBody m n k (rw (length-replicate maxBodies restingBody) few)
 
 -- ---- the writes
 
-pub body-turn : (table : List TickBody) (new : List BodyState) (i : ℕ) → i < maxBodies → length table ≡ maxBodies → length new ≡ maxBodies
-    → (s : List Float) {t : List Float} → t ≡ storeMoving (getD table i unreadTickBody) (getD new i unreadState) i s → t ≡ storeNew table new i s
-body-turn table new i h e₁ e₂ s et =
-    rw (et, getD-in table i unreadTickBody noTickBody (rw e₁ h), getD-in new i unreadState restingBody (rw e₂ h))
+-- what the loop writes, by the machine's reads
+pub write-is : (table : List TickBody) (new : List BodyState) (i : ℕ) → i < maxBodies → length table ≡ maxBodies → length new ≡ maxBodies
+    → (s : List Float) → storeMoving (getD table i unreadTickBody) (getD new i unreadState) i s ≡ storeNew table new i s
+write-is table new i h e₁ e₂ s =
+    rw (getD-in table i unreadTickBody noTickBody (rw e₁ h), getD-in new i unreadState restingBody (rw e₂ h))
 
 -- a joint's four totals, one behind the other
 pub totals-written : (u : JointTotals) (s : List Float) (at : ℕ) {s₁ s₂ s₃ s₄ : List Float}

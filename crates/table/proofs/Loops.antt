@@ -38,12 +38,6 @@ module _ {S : Type 0} (f : ℕ → S → S) (s : S) where
   after-all P zero base step = base
   after-all P (suc n) base step = step n (after f s n) (omega arith) (after-all P n base (λ i t h. step i t (omega arith)))
 
--- steps that agree below n
-pub after-same : {S : Type 0} (f g : ℕ → S → S) (s : S) (n : ℕ) → ((i : ℕ) → i < n → (t : S) → f i t ≡ g i t) → after f s n ≡ after g s n
-unfolding after
-after-same f g s zero e = refl
-after-same f g s (suc n) e = e n (omega arith) (after f s n) ∙ ap (g n) (after-same f g s n (λ i h t. e i (omega arith) t))
-
 pub any-same : (p q : ℕ → Bool) (n : ℕ) → ((i : ℕ) → i < n → p i ≡ q i) → anyTo p n ≡ anyTo q n
 unfolding anyTo
 any-same p q zero e = refl
@@ -69,3 +63,9 @@ module _ {A : Type 0} where
         le-ind {n = suc i} (λ m. getD (after (fill v) l m) i d ≡ v i)
         (getD-set-same (after (fill v) l i) i (v i) d (rw (fill-length i) (omega arith)))
         (λ m a q. getD-set-other (after (fill v) l m) m i (v m) d (λ e. omega arith) ∙ q) n h
+
+    -- a place that is not reached yet
+    pub fill-past : (d : A) (i n : ℕ) → n ≤ i → getD (after (fill v) l n) i d ≡ getD l i d
+    unfolding after
+    fill-past d i zero h = refl
+    fill-past d i (suc n) h = getD-set-other (after (fill v) l n) n i (v n) d (λ e. omega arith) ∙ fill-past d i n (omega arith)

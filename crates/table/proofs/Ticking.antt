@@ -16,8 +16,10 @@ use Rattle.solver_body.specs.declared.SolverBody.{SolverBody}
 use Rattle.tick.specs.Finite.{finite3, finite4}
 use Rattle.tick.specs.Body.{restingBody, tooFar, bodyFault}
 use Rattle.tick.specs.declared.body.BodyState.{BodyState}
+use Rattle.tick.specs.declared.joint.JointTotals.{JointTotals}
 use Rattle.card.specs.Layout.{bodyNumbers, stateLength}
 use Rattle.card.specs.Loop.{anyTo}
+use Rattle.card.proofs.Loops.{any-some}
 use Rattle.card.specs.Records.{headerAt, dtOf}
 use Rattle.card.specs.Checks.{Refusal, refuse, firstOf, checkOf}
 use Rattle.card.specs.Accepted.{Accepted}
@@ -25,13 +27,11 @@ use Rattle.card.specs.declared.records.Header.{Header}
 use Rattle.card_records.specs.State.{numberFault, stateFault, orElse, checkStateOf, Answered, answered}
 use Rattle.card_records.proofs.Starting.{state-refused, state-accepted}
 use Rattle.table.specs.Loop.{after}
-use Rattle.table.specs.Tick.{bodyStateNumbers, storeTotals, anchoredAt, rigidAt, preSolve, before, newBody, newFault, storeBody, stored, finished, tickAccepted}
+use Rattle.table.specs.Tick.{Solved, bodyStateAt, bodyStateNumbers, storeTotals, anchoredAt, rigidAt, preSolve, before, newBody, newFault, storeBody, stored, finished, tickAccepted}
 use Rattle.table.specs.Run.{tickOf, tickNext, runOf}
-use Rattle.table.specs.Parts.{SoundCard, SoundState, tickBodyAt, noTickBody, TickBodies, finishedOr, finishedAt, NewBodiesOf, storeNew, tickChecked}
+use Rattle.table.specs.Parts.{SoundCard, SoundState, cardBodyAt, standing, tickBodyAt, noTickBody, TickBodies, finishedOr, finishedAt, storeNew, tickChecked}
 use Rattle.table.specs.declared.load.TickBody.{TickBody}
-use Rattle.table.specs.declared.solve.Solved.{Solved}
-use Rattle.table.specs.declared.store.NewBodies.{NewBodies}
-use Rattle.table.proofs.Loops.{after-none, after-more, after-kept, after-same, any-same}
+use Rattle.table.proofs.Loops.{after-none, after-more, after-done, after-kept, any-same}
 use Rattle.table.proofs.Turns.{valid-as}
 
 -- ---- the new numbers
@@ -61,11 +61,11 @@ module _ (card : List ℕ) (h : Header) (s : List Float) (S : SoundCard card h) 
   new i = finishedAt table pre (σ .bodies) (dtOf h) i
 
   valid-is : (i : ℕ) → i < h .bodies → isValid (getD table i noTickBody .index) ≡ not (anchoredAt card i)
-  unfolding tickBodyAt
+  unfolding tickBodyAt standing cardBodyAt
   valid-is i k = rw (B .each i k) (valid-as (anchoredAt card i) i (omega (arith, k, S .few-bodies)))
 
   rigid-is : (i : ℕ) → i < h .bodies → getD table i noTickBody .rigid ≡ rigidAt card s i
-  unfolding tickBodyAt
+  unfolding tickBodyAt standing cardBodyAt rigidAt
   rigid-is i k = rw (B .each i k)
 
   new-is : (i : ℕ) → i < h .bodies → new i ≡ (if not (anchoredAt card i) then newBody card h s σ i else restingBody)
@@ -84,25 +84,42 @@ module _ (card : List ℕ) (h : Header) (s : List Float) (S : SoundCard card h) 
   unfolding finished
   accepted-stopped e = rw (← solved, e)
 
-  module _ {r : NewBodies} (N : NewBodiesOf new (h .bodies) r) (go : σ .stopped ≡ false) where
-    faults : r .stopped ≡ anyTo (newFault card h s σ) (h .bodies)
-    faults = N .fault ∙ any-same (λ i. bodyFault (new i)) (newFault card h s σ) (h .bodies) fault-is
+  module _ (go : σ .stopped ≡ false) where
+    faults : anyTo (λ i. bodyFault (new i)) (h .bodies) ≡ anyTo (newFault card h s σ) (h .bodies)
+    faults = any-same (λ i. bodyFault (new i)) (newFault card h s σ) (h .bodies) fault-is
 
-    pub accepted-fault : r .stopped ≡ true → answered 13 s ≡ tickAccepted card h s
+    pub accepted-fault : (i : ℕ) → i < h .bodies → bodyFault (new i) ≡ true → answered 13 s ≡ tickAccepted card h s
     unfolding finished
-    accepted-fault e = sym (at-fault (σ .stopped) (anyTo (newFault card h s σ) (h .bodies)) _ _ go (sym faults ∙ e)) ∙ solved
+    accepted-fault i k e =
+        let some = any-some (λ m. bodyFault (new m)) i (h .bodies) k e in
+        sym (at-fault (σ .stopped) (anyTo (newFault card h s σ) (h .bodies)) _ _ go (sym faults ∙ some)) ∙ solved
 
-    store-is : r .stopped ≡ false → (i : ℕ) → i < h .bodies → (t : List Float) → storeNew table (r .bodies) i t ≡ storeBody card h s σ i t
-    store-is e i k t = rw (valid-is i k, N .each e i k, new-is i k) (store-as (anchoredAt card i) (newBody card h s σ i) i t)
+    module _ (fine : anyTo (λ i. bodyFault (new i)) (h .bodies) ≡ false) where
+      pub accepted-stored : answered 0 (stored card h s (before card h s (h .joints))) ≡ tickAccepted card h s
+      unfolding finished
+      accepted-stored =
+          ap (λ τ. answered 0 (stored card h s τ)) (sym eσ)
+          ∙ sym (at-end (σ .stopped) (anyTo (newFault card h s σ) (h .bodies)) _ _ go (sym faults ∙ fine))
+          ∙ solved
 
-    pub accepted-done : r .stopped ≡ false → {s₁ s₂ : List Float} → s₁ ≡ after (storeNew table (r .bodies)) s (h .bodies)
-        → s₂ ≡ after (storeTotals (h .bodies) (σ .totals)) s₁ (h .joints) → answered 0 s₂ ≡ tickAccepted card h s
-    unfolding finished stored
-    accepted-done e e₁ e₂ =
-        let same = e₁ ∙ after-same (storeNew table (r .bodies)) (storeBody card h s σ) s (h .bodies) (store-is e) in
-        ap (λ t. answered 0 t) (e₂ ∙ ap (λ t. after (storeTotals (h .bodies) (σ .totals)) t (h .joints)) same)
-        ∙ sym (at-end (σ .stopped) (anyTo (newFault card h s σ) (h .bodies)) _ _ go (sym faults ∙ e))
-        ∙ solved
+  pub store-is : (r : List BodyState) → ((i : ℕ) → i < h .bodies → getD r i restingBody ≡ new i)
+      → (i : ℕ) → i < h .bodies → (t : List Float) → storeNew table r i t ≡ storeBody card h s (before card h s (h .joints)) i t
+  store-is r each i k t =
+      rw (valid-is i k, each i k, new-is i k) (store-as (anchoredAt card i) (newBody card h s σ i) i t)
+      ∙ ap (λ τ. storeBody card h s τ i t) eσ
+
+-- the bodies written, then the totals
+pub all-stored : (card : List ℕ) (h : Header) (s : List Float) {totals : List JointTotals} {s₁ s₂ : List Float} {j : ℕ}
+    → let σ = before card h s (h .joints) in totals ≡ σ .totals → s₁ ≡ after (storeBody card h s σ) s (h .bodies) → s₂ ≡ after (storeTotals (h .bodies) totals) s₁ j
+    → j ≤ h .joints → h .joints ≤ j → answered 0 (stored card h s σ) ≡ tickAccepted card h s → answered 0 s₂ ≡ tickAccepted card h s
+unfolding stored
+all-stored card h s {totals} et e₁ e₂ a b is =
+    let bodies = after (storeBody card h s (before card h s (h .joints))) s (h .bodies) in
+    ap (λ t. answered 0 t)
+    (after-done _ _ e₂ a b
+    ∙ ap (λ t. after (storeTotals (h .bodies) totals) t (h .joints)) e₁
+    ∙ ap (λ u. after (storeTotals (h .bodies) u) bodies (h .joints)) et)
+    ∙ is
 
 -- ---- the checks
 

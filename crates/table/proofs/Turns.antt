@@ -35,11 +35,10 @@ use Rattle.card.specs.declared.records.JointBits.{JointBits}
 use Rattle.card_records.specs.Decode.{inertiaAt, angularMotorAt, linearMotorAt, revoluteAt, prismaticAt, joints, jointOf, jointAt}
 use Rattle.card_records.specs.declared.joint.CardJoint.the-variants.{Unknown}
 use Rattle.table.specs.Loop.{after}
-use Rattle.table.specs.Tick.{bodyStateAt, noJoint, anchoredAt, putMoving, loadNext, knownJoint, loaded, warmStarted, firstBody, secondBody, preparedAt, pairAt, putPair, warmStartedAt, warmStartNext, integrateNext, preSolve, solvedAt, stop, solveNext, before}
-use Rattle.table.specs.Parts.{SoundCard, indexOf, tickBodyAt, noTickBody, TickBodies, moved, integratedOr, CardJoints, warmValueAt, warmStartedWith, solvedWith}
+use Rattle.table.specs.Tick.{Solved, bodyStateAt, noJoint, anchoredAt, rigidAt, putMoving, loadNext, knownJoint, loaded, warmStarted, firstBody, secondBody, preparedAt, pairAt, putPair, warmStartedAt, warmStartNext, integrateNext, preSolve, solvedAt, stop, solveNext, before}
+use Rattle.table.specs.Parts.{SoundCard, indexOf, cardBodyAt, standing, tickBodyAt, noTickBody, CardBodies, TickBodies, moved, integratedOr, CardJoints, warmValueAt, warmStartedWith, solvedWith}
 use Rattle.table.specs.declared.load.TickBody.{TickBody}
-use Rattle.table.specs.declared.solve.Solved.{Solved}
-use Rattle.table.proofs.Loops.{after-turn, after-kept, after-all, getD-in}
+use Rattle.table.proofs.Loops.{after-turn, after-kept, after-all, getD-in, fill, fill-length, fill-at, fill-past}
 
 -- ---- what a read past an array's end would give
 
@@ -87,6 +86,33 @@ unfolding moved
 put-as true i h bodies d b = rw (valid-as true i h) (set-getD bodies i d)
 put-as false i h bodies d b = rw (valid-as false i h)
 
+-- ---- the bodies where the state has them
+
+module _ (card : List ℕ) (h : Header) (s : List Float) (few : h .bodies ≤ maxBodies) (bodies : List TickBody) (B : CardBodies card h bodies) where
+  abbrev pub stood : ℕ → List TickBody
+  stood i = after (fill (tickBodyAt card s)) bodies i
+
+  pub stand-turn : (i : ℕ) → i < h .bodies → {table : List TickBody} {a : BodyState} {t : TickBody} → table ≡ stood i
+      → a ≡ bodyStateAt s i → t ≡ standing (getD table i unreadTickBody) a → t ≡ tickBodyAt card s i
+  unfolding tickBodyAt
+  stand-turn i k et ea e =
+      let read = getD-in bodies i unreadTickBody noTickBody (rw (B .places) (omega arith)) ∙ B .each i k in
+      rw (e, ea, et) (ap (λ b. standing b (bodyStateAt s i)) (fill-past (tickBodyAt card s) bodies unreadTickBody i i (omega arith) ∙ read))
+
+  pub stands : {i : ℕ} {table : List TickBody} → table ≡ stood i → i ≤ h .bodies → h .bodies ≤ i → TickBodies card s (h .bodies) table
+  stands {i} {table} et a b =
+      let e : h .bodies ≡ i = omega arith in
+      let f : table ≡ stood (h .bodies) = rw e et in
+      record {
+        places = ap (λ t. length t) f ∙ fill-length (tickBodyAt card s) bodies (h .bodies) ∙ B .places;
+        each = λ m k. ap (λ t. getD t m noTickBody) f ∙ fill-at (tickBodyAt card s) bodies noTickBody m (h .bodies) k (rw (B .places) few);
+      }
+
+pub load-turn : (card : List ℕ) (s : List Float) (i : ℕ) → i < maxBodies → (bodies : List SolverBody) {t : TickBody} {b c : SolverBody} {a : BodyState}
+    → t ≡ tickBodyAt card s i → a ≡ bodyStateAt s i → c ≡ solverBodyOf a → b ≡ moved (t .index) (getD bodies i unreadBody) c → set bodies i b ≡ loadNext card s i bodies
+unfolding tickBodyAt standing cardBodyAt
+load-turn card s i k bodies et ea ec eb = rw (eb, ec, ea, et) (put-as (anchoredAt card i) i k bodies unreadBody (solverBodyOf (bodyStateAt s i)))
+
 module _ (card : List ℕ) (s : List Float) (n : ℕ) (few : n ≤ maxBodies) (table : List TickBody) (T : TickBodies card s n table) where
   abbrev at : ℕ → TickBody
   at i = getD table i unreadTickBody
@@ -96,22 +122,18 @@ module _ (card : List ℕ) (s : List Float) (n : ℕ) (few : n ≤ maxBodies) (t
   held i h = getD-in table i unreadTickBody noTickBody (rw (T .places) (omega arith)) ∙ T .each i h
 
   index-is : (i : ℕ) → i < n → at i .index ≡ indexOf (anchoredAt card i) i
-  unfolding tickBodyAt
+  unfolding tickBodyAt standing cardBodyAt
   index-is i h = ap (λ (t : TickBody). t .index) (held i h)
 
   put-is : (i : ℕ) → i < n → (bodies : List SolverBody) (b : SolverBody)
       → set bodies i (moved (at i .index) (getD bodies i unreadBody) b) ≡ putMoving card i b bodies
   put-is i h bodies b = rw (index-is i h) (put-as (anchoredAt card i) i (omega arith) bodies unreadBody b)
 
-  pub load-turn : (i : ℕ) → i < n → (bodies : List SolverBody) {b c : SolverBody} {a : BodyState}
-      → a ≡ bodyStateAt s i → c ≡ solverBodyOf a → b ≡ moved (at i .index) (getD bodies i unreadBody) c → set bodies i b ≡ loadNext card s i bodies
-  load-turn i h bodies ea ec eb = rw (eb, ec, ea) (put-is i h bodies (solverBodyOf (bodyStateAt s i)))
-
   -- ---- gravity, locks and deltas
 
   pub integrate-turn : (h : Header) (t : List Float) (i : ℕ) → i < n → (bodies : List SolverBody) → length bodies ≡ maxBodies → {b : SolverBody} {dt : Float}
       → dt ≡ dtOf h → b ≡ integratedOr (at i) (getD bodies i unreadBody) (h .gravity) dt → set bodies i b ≡ integrateNext card h t i bodies
-  unfolding integratedOr tickBodyAt
+  unfolding integratedOr tickBodyAt standing cardBodyAt
   integrate-turn h t i k bodies lb ed eb =
       let read = getD-in bodies i unreadBody dummyBody (rw lb (omega arith)) in
       rw (eb, ed)
@@ -259,12 +281,12 @@ module _ (card : List ℕ) (h : Header) (s : List Float) (S : SoundCard card h) 
 
     warm-is : warmStartedWith (heldJoint j) h s j (tickBody (firstBody card h s j)) (tickBody (secondBody card h s j)) (pairOf (jointBits card (h .bodies) j) bodies)
         ≡ warmStartedAt card h s j bodies
-    unfolding warmStartedWith warmValueAt preparedAt tickBodyAt
+    unfolding warmStartedWith warmValueAt preparedAt tickBodyAt standing cardBodyAt rigidAt
     warm-is = rw (joint-is, first-is, second-is, pair-is)
 
     solved-is : solvedWith (heldJoint j) h (tickBody (firstBody card h s j)) (tickBody (secondBody card h s j)) (pairOf (jointBits card (h .bodies) j) bodies)
         ≡ resultOf (solvedAt card h s j bodies)
-    unfolding solvedWith preparedAt tickBodyAt
+    unfolding solvedWith preparedAt tickBodyAt standing cardBodyAt rigidAt
     solved-is = rw (joint-is, first-is, second-is, pair-is) (any-warm-value _ _ _ _ _ _ _ _ _)
 
     module _ {b : JointBits} (eb : b ≡ jointBits card (h .bodies) j) (pair : BodyPair) {b₁ b₂ : SolverBody}

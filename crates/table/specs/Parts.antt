@@ -1,6 +1,6 @@
 -- What the parts of a tick ask for and hand to each other, for their own contracts: Tick.antt needs none of it.
 use Prim.Native.Nat.{ℕ, _*_, _≤_, _<_}
-use mathlib.Core.Bool.{Bool, false}
+use mathlib.Core.Bool.{Bool}
 use mathlib.Core.Path.{_≡_}
 use mathlib.Core.List.{List}
 use lib.ListN.{length, getD}
@@ -18,19 +18,17 @@ use Rattle.solver_body.specs.declared.SolverBodyIndex.{SolverBodyIndex}
 use Rattle.solver_body.specs.declared.BodyPair.{BodyPair}
 use Rattle.xpbd_plugin.specs.Plugin.{dominatedOf}
 use Rattle.xpbd_plugin.specs.Joint.{jointPrepared, jointWarmStarted, jointSolved}
-use Rattle.tick.specs.Body.{integrated, restingBody, finishedBody, bodyFault}
+use Rattle.tick.specs.Body.{integrated, restingBody, finishedBody}
 use Rattle.tick.specs.Joint.{warmValue, resultOf}
 use Rattle.tick.specs.declared.body.BodyState.{BodyState}
 use Rattle.tick.specs.declared.joint.JointResult.{JointResult}
 use Rattle.card.specs.Layout.{maxBodies, maxJoints, maxRate, jointPlace, bodyNumbers, stateLength}
-use Rattle.card.specs.Loop.{anyTo}
 use Rattle.card.specs.Records.{jointBits, dtOf}
 use Rattle.card.specs.declared.records.Header.{Header}
-use Rattle.card_records.specs.Decode.{inertiaAt, jointAt}
+use Rattle.card_records.specs.Decode.{inertiaAt, centerOfMassAt, jointAt}
 use Rattle.card_records.specs.State.{stateFault, Answered, answered}
-use Rattle.table.specs.Tick.{bodyStateNumbers, totalsAt, noJoint, anchoredAt, rigidAt, knownJoint, tickAccepted}
+use Rattle.table.specs.Tick.{bodyStateAt, bodyStateNumbers, totalsAt, noJoint, anchoredAt, knownJoint, tickAccepted}
 use Rattle.table.specs.declared.load.TickBody.{TickBody}
-use Rattle.table.specs.declared.store.NewBodies.{NewBodies}
 
 -- what no check refuses has this
 pub record SoundCard (card : List ℕ) (h : Header) : Type 0 where
@@ -50,9 +48,26 @@ SoundState h s = length s ≡ stateLength (h .bodies) (h .joints)
 unfoldable pub indexOf : Bool → ℕ → SolverBodyIndex
 indexOf anchored i = if anchored then invalidIndex else record { 0 = i }
 
+-- a body of the card, before it stands anywhere
+unfoldable pub cardBodyAt : List ℕ → ℕ → TickBody
+cardBodyAt card i =
+    record {
+      index = indexOf (anchoredAt card i) i;
+      rigid = record { position = origin; rotation = identity; «center_of_mass» = centerOfMassAt card i };
+      inertia = inertiaAt card i;
+    }
+
+-- where the state has it
+unfoldable pub standing : TickBody → BodyState → TickBody
+standing b at =
+    record {
+      index = b .index;
+      rigid = record { position = at .position; rotation = at .rotation; «center_of_mass» = b .rigid .«center_of_mass» };
+      inertia = b .inertia;
+    }
+
 unfoldable pub tickBodyAt : List ℕ → List Float → ℕ → TickBody
-tickBodyAt card s i =
-    record { index = indexOf (anchoredAt card i) i; rigid = rigidAt card s i; inertia = inertiaAt card i }
+tickBodyAt card s i = standing (cardBodyAt card i) (bodyStateAt s i)
 
 abbrev pub noTickBody : TickBody
 noTickBody =
@@ -62,7 +77,12 @@ noTickBody =
       inertia = dummyInertia;
     }
 
--- the bodies, each in its place
+-- the card's bodies, each in its place
+pub record CardBodies (card : List ℕ) (h : Header) (table : List TickBody) : Type 0 where
+  pub places : length table ≡ maxBodies
+  pub each : (i : ℕ) → i < h .bodies → getD table i noTickBody ≡ cardBodyAt card i
+
+-- the bodies where the state has them
 pub record TickBodies (card : List ℕ) (s : List Float) (bodies : ℕ) (table : List TickBody) : Type 0 where
   pub places : length table ≡ maxBodies
   pub each : (i : ℕ) → i < bodies → getD table i noTickBody ≡ tickBodyAt card s i
@@ -80,11 +100,6 @@ finishedOr t pre b dt = if isValid (t .index) then finishedBody (t .rigid) pre b
 -- body i's new numbers, by the arrays
 unfoldable pub finishedAt : List TickBody → List SolverBody → List SolverBody → Float → ℕ → BodyState
 finishedAt table pre bodies dt i = finishedOr (getD table i noTickBody) (getD pre i dummyBody) (getD bodies i dummyBody) dt
-
--- the new numbers of n bodies, where none is at fault
-pub record NewBodiesOf (new : ℕ → BodyState) (n : ℕ) (r : NewBodies) : Type 0 where
-  pub fault : r .stopped ≡ anyTo (λ i. bodyFault (new i)) n
-  pub each : r .stopped ≡ false → (i : ℕ) → i < n → getD (r .bodies) i restingBody ≡ new i
 
 -- body i's new numbers, where it moves
 abbrev pub storeMoving : TickBody → BodyState → ℕ → List Float → List Float
@@ -116,6 +131,12 @@ solvedWith joint h t₁ t₂ b =
     resultOf (jointSolved (jointPrepared joint (t₁ .rigid) (t₂ .rigid) origin) b (i .inertia1) (i .inertia2) (dtOf h))
 
 -- ---- a tick of a card that no check refuses
+
+-- what the loops of a tick have before them
+pub record Ready (card : List ℕ) (h : Header) (s : List Float) (table : List TickBody) : Type 0 where
+  pub sound : SoundCard card h
+  pub whole : SoundState h s
+  pub stands : TickBodies card s (h .bodies) table
 
 unfoldable pub tickChecked : List ℕ → Header → List Float → Answered
 tickChecked card h s =

@@ -33,7 +33,6 @@ use Rattle.card.specs.declared.records.Header.{Header}
 use Rattle.card_records.specs.declared.joint.CardJoint.{CardJoint}
 use Rattle.card_records.specs.declared.joint.CardJoint.the-variants.{Known, Unknown}
 use Rattle.table.specs.Loop.{after}
-use Rattle.table.specs.declared.solve.Solved.{Solved}
 
 -- ---- the state: 13 numbers for each body, then 12 for each joint
 
@@ -99,6 +98,12 @@ putMoving card i b bodies = if anchoredAt card i then bodies else set bodies i b
 -- deltas zero and identity
 abbrev pub loadNext : List ℕ → List Float → ℕ → List SolverBody → List SolverBody
 loadNext card s i bodies = putMoving card i (solverBodyOf (bodyStateAt s i)) bodies
+
+-- the solver's bodies and the joints' totals, after the joints so far
+pub record Solved : Type 0 where
+  pub stopped : Bool
+  pub bodies : List SolverBody
+  pub totals : List JointTotals
 
 abbrev pub stop : Solved → Solved
 stop σ = record { stopped = true; bodies = σ .bodies; totals = σ .totals }

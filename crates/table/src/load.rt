@@ -3,8 +3,8 @@ ghost use mathlib.Core.Path.{_≡_};
 ghost use Prim.Native.Nat.{_+_, _*_, _≤_, _<_};
 ghost use lib.ListN.{length};
 ghost use Rattle.card.specs.Layout.{maxBodies, bodyNumbers, jointNumbers};
-ghost use Rattle.table.specs.Tick.{vec3In, quatIn, bodyStateAt, totalsPlace, totalsAt, loaded, warmStarted, preSolve};
-ghost use Rattle.table.specs.Parts.{SoundCard, SoundState, indexOf, tickBodyAt, TickBodies, moved, integratedOr};
+ghost use Rattle.table.specs.Tick.{vec3In, quatIn, bodyStateAt, totalsPlace, totalsAt};
+ghost use Rattle.table.specs.Parts.{SoundCard, indexOf, cardBodyAt, CardBodies, standing, moved, integratedOr};
 use card::layout::BODY_NUMBERS;
 use card::layout::JOINT_NUMBERS;
 use card::layout::MAX_BODIES;
@@ -66,7 +66,7 @@ fn quat_in(state: &[f32], at: usize) -> Quat
 }
 
 // The 13 numbers of body i.
-fn body_state_at(state: &[f32], i: usize) -> BodyState
+pub fn body_state_at(state: &[f32], i: usize) -> BodyState
     requires { ⌜ bodyNumbers * i + bodyNumbers ≤ length (now state) ⌝ }
     ensures { λ r. ⌜ r ≡ bodyStateAt (now (state .entry)) i ⌝ }
 {
@@ -110,89 +110,63 @@ pub fn moved(index: SolverBodyIndex, old: SolverBody, new: SolverBody) -> Solver
     if index.is_valid() { new } else { old }
 }
 
-fn tick_body_at(card: &[u8], h: Header, state: &[f32], i: usize) -> TickBody
-    requires { ⌜ SoundCard (now card) h × SoundState h (now state) × (i < h .bodies) ⌝ }
-    ensures { λ r. ⌜ r ≡ tickBodyAt (now (card .entry)) (now (state .entry)) i ⌝ }
+fn card_body_at(card: &[u8], h: Header, i: usize) -> TickBody
+    requires { ⌜ SoundCard (now card) h × (i < h .bodies) ⌝ }
+    ensures { λ r. ⌜ r ≡ cardBodyAt (now (card .entry)) i ⌝ }
 {
-    let b = body_state_at(state, i);
-    let position = b.position;
-    let rotation = b.rotation;
     TickBody {
         index: index_of(body_bits(card, i).anchored, i),
         rigid: RigidBody {
-            position,
-            rotation,
+            position: Vec3::ZERO,
+            rotation: Quat::IDENTITY,
             center_of_mass: center_of_mass_at(card, i),
         },
         inertia: inertia_at(card, i),
     }
 }
 
-pub fn tick_bodies(card: &[u8], h: Header, state: &[f32]) -> [TickBody; MAX_BODIES]
-    requires { ⌜ SoundCard (now card) h × SoundState h (now state) ⌝ }
-    ensures { λ r. ⌜ TickBodies (now (card .entry)) (now (state .entry)) (h .bodies) r ⌝ }
+// The bodies, each in its place, before they stand anywhere: decoded once for all ticks.
+pub fn card_bodies(card: &[u8], h: Header) -> [TickBody; MAX_BODIES]
+    requires { ⌜ SoundCard (now card) h ⌝ }
+    ensures { λ r. ⌜ CardBodies (now (card .entry)) h r ⌝ }
 {
     let count = h.bodies;
     let mut table = [TickBody::NONE; MAX_BODIES];
     let mut i = 0;
     while i < count {
-        let b = tick_body_at(card, h, state, i);
+        let b = card_body_at(card, h, i);
         table[i] = b;
         i += 1;
     }
     table
 }
 
-// The solver's bodies at a tick's start, an anchored one the dummy.
-pub fn start_bodies(
-    card: &[u8],
-    h: Header,
-    state: &[f32],
-    table: [TickBody; MAX_BODIES],
-) -> [SolverBody; MAX_BODIES]
-    requires { ⌜ SoundCard (now card) h × SoundState h (now state) × TickBodies (now card) (now state) (h .bodies) table ⌝ }
-    ensures { λ r. ⌜ r ≡ loaded (now (card .entry)) h (now (state .entry)) ⌝ }
+// A body of the card where the state has it.
+pub fn standing(b: TickBody, at: BodyState) -> TickBody
+    ensures { λ r. ⌜ r ≡ standing b at ⌝ }
 {
-    let count = h.bodies;
-    let mut bodies = [SolverBody::DUMMY; MAX_BODIES];
-    let mut i = 0;
-    while i < count {
-        let t = table[i];
-        let b = moved(t.index, bodies[i], body_state_at(state, i).solver_body());
-        bodies[i] = b;
-        i += 1;
+    let position = at.position;
+    let rotation = at.rotation;
+    let index = b.index;
+    let inertia = b.inertia;
+    let center_of_mass = b.rigid.center_of_mass;
+    TickBody {
+        index,
+        rigid: RigidBody {
+            position,
+            rotation,
+            center_of_mass,
+        },
+        inertia,
     }
-    bodies
 }
 
-fn integrated_or(t: TickBody, body: SolverBody, gravity: f32, dt: f32) -> SolverBody
+// Gravity and the locks, then the deltas of the velocities.
+pub fn integrated_or(t: TickBody, body: SolverBody, gravity: f32, dt: f32) -> SolverBody
     ensures { λ r. ⌜ r ≡ integratedOr t body gravity dt ⌝ }
 {
     if t.index.is_valid() {
         return integrate(body, t.inertia, gravity, dt);
     }
     body
-}
-
-// Gravity and the locks, then the deltas of the velocities.
-pub fn integrate_bodies(
-    card: &[u8],
-    h: Header,
-    state: &[f32],
-    table: [TickBody; MAX_BODIES],
-    warm_started: [SolverBody; MAX_BODIES],
-) -> [SolverBody; MAX_BODIES]
-    requires { ⌜ SoundCard (now card) h × TickBodies (now card) (now state) (h .bodies) table × («warm_started» ≡ warmStarted (now card) h (now state)) ⌝ }
-    ensures { λ r. ⌜ r ≡ preSolve (now (card .entry)) h (now (state .entry)) ⌝ }
-{
-    let count = h.bodies;
-    let dt = h.dt();
-    let mut bodies = warm_started;
-    let mut i = 0;
-    while i < count {
-        let b = integrated_or(table[i], bodies[i], h.gravity, dt);
-        bodies[i] = b;
-        i += 1;
-    }
-    bodies
 }

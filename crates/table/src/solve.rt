@@ -1,35 +1,23 @@
-// The joints of a card, in its order: their warm start, then their solve.
+// A joint of a card: its warm start, and its solve.
 ghost use mathlib.Core.Path.{_≡_};
 ghost use Prim.Native.Nat.{_≤_, _<_};
 ghost use Rattle.card.specs.Layout.{maxRate};
-ghost use Rattle.table.specs.Tick.{knownJoint, loaded, warmStarted, preSolve, before};
-ghost use Rattle.table.specs.Parts.{SoundCard, SoundState, TickBodies, CardJoints, warmValueAt, warmStartedWith, solvedWith};
+ghost use Rattle.table.specs.Tick.{knownJoint};
+ghost use Rattle.table.specs.Parts.{SoundCard, SoundState, CardJoints, warmValueAt, warmStartedWith, solvedWith};
 use crate::load::TickBody;
-use crate::load::moved;
 use crate::load::totals_at;
-use card::layout::MAX_BODIES;
 use card::layout::MAX_JOINTS;
 use card::records::Header;
-use card::records::joint_bits;
 use card_records::joint::CardJoint;
 use card_records::joint::joint_at;
 use joints::DistanceLimit;
 use joints::Joint;
 use joints::distance::DistanceJoint;
 use solver_body::BodyPair;
-use solver_body::SolverBody;
 use tick::joint;
 use tick::joint::JointResult;
-use tick::joint::JointTotals;
 use vector::Vec3;
 use xpbd_plugin::dominated;
-
-// The solver's bodies and the joints' totals, after the joints so far.
-pub struct Solved {
-    pub stopped: bool,
-    pub bodies: [SolverBody; MAX_BODIES],
-    pub totals: [JointTotals; MAX_JOINTS],
-}
 
 // A card that no check refuses has no unknown kind.
 fn known_joint(joint: CardJoint) -> Joint
@@ -71,7 +59,7 @@ fn warm_value_at(joint: Joint, h: Header, state: &[f32], j: usize) -> Vec3
     joint::warm_value(joint, totals_at(state, h.bodies, j), h.dt())
 }
 
-fn warm_start_joint(
+pub fn warm_start_joint(
     joint: Joint,
     h: Header,
     state: &[f32],
@@ -98,7 +86,7 @@ fn warm_start_joint(
 }
 
 // The solve asks for no warm value, so none is worked out.
-fn solve_joint(
+pub fn solve_joint(
     joint: Joint,
     h: Header,
     body1: TickBody,
@@ -119,96 +107,4 @@ fn solve_joint(
         i.inertia2,
         h.dt(),
     )
-}
-
-pub fn warm_start_joints(
-    card: &[u8],
-    h: Header,
-    state: &[f32],
-    table: [TickBody; MAX_BODIES],
-    start: [SolverBody; MAX_BODIES],
-    card_joints: [Joint; MAX_JOINTS],
-) -> [SolverBody; MAX_BODIES]
-    requires { ⌜ SoundCard (now card) h × SoundState h (now state) × TickBodies (now card) (now state) (h .bodies) table × (start ≡ loaded (now card) h (now state)) × CardJoints (now card) h «card_joints» ⌝ }
-    ensures { λ r. ⌜ r ≡ warmStarted (now (card .entry)) h (now (state .entry)) ⌝ }
-{
-    let count = h.bodies;
-    let joints = h.joints;
-    let mut bodies = start;
-    let mut j = 0;
-    while j < joints {
-        let bits = joint_bits(card, count, j);
-        // A joint without a motor has nothing to warm.
-        if bits.motor == 0 {
-            j += 1;
-            continue;
-        }
-        let first = bits.body1;
-        let second = bits.body2;
-        let t1 = table[first];
-        let t2 = table[second];
-        let pair = BodyPair {
-            body1: bodies[first],
-            body2: bodies[second],
-        };
-        let joint = card_joints[j];
-        let warm = warm_start_joint(joint, h, state, j, t1, t2, pair);
-        let b1 = moved(t1.index, bodies[first], warm.body1);
-        bodies[first] = b1;
-        let b2 = moved(t2.index, bodies[second], warm.body2);
-        bodies[second] = b2;
-        j += 1;
-    }
-    bodies
-}
-
-// Up to the first joint whose numbers are not finite.
-pub fn solve_joints(
-    card: &[u8],
-    h: Header,
-    state: &[f32],
-    table: [TickBody; MAX_BODIES],
-    pre_solve: [SolverBody; MAX_BODIES],
-    card_joints: [Joint; MAX_JOINTS],
-) -> Solved
-    requires { ⌜ SoundCard (now card) h × SoundState h (now state) × TickBodies (now card) (now state) (h .bodies) table × («pre_solve» ≡ preSolve (now card) h (now state)) × CardJoints (now card) h «card_joints» ⌝ }
-    ensures { λ r. ⌜ r ≡ before (now (card .entry)) h (now (state .entry)) (h .joints) ⌝ }
-{
-    let count = h.bodies;
-    let joints = h.joints;
-    let mut bodies = pre_solve;
-    let mut totals = [JointTotals::ZERO; MAX_JOINTS];
-    let mut j = 0;
-    while j < joints {
-        let bits = joint_bits(card, count, j);
-        let first = bits.body1;
-        let second = bits.body2;
-        let t1 = table[first];
-        let t2 = table[second];
-        let pair = BodyPair {
-            body1: bodies[first],
-            body2: bodies[second],
-        };
-        let joint = card_joints[j];
-        let solved = solve_joint(joint, h, t1, t2, pair);
-        if !solved.finite {
-            return Solved {
-                stopped: true,
-                bodies,
-                totals,
-            };
-        }
-        let b1 = moved(t1.index, bodies[first], solved.bodies.body1);
-        bodies[first] = b1;
-        let b2 = moved(t2.index, bodies[second], solved.bodies.body2);
-        bodies[second] = b2;
-        let t = solved.totals;
-        totals[j] = t;
-        j += 1;
-    }
-    Solved {
-        stopped: false,
-        bodies,
-        totals,
-    }
 }

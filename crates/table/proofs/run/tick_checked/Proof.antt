@@ -8,7 +8,7 @@ tick-accepted-requires : tie.Need-tick-accepted-requires
 tick-accepted-requires c κs =
     let n = c .before .before in
     let a = c .before .before .before .before .before .before .before in
-    (a .pre .0, length-passed (a .args .h) (a .args .state .now) (sym (n .before .state-answer .ensures) ∙ sym (n .number .ensures) ∙ c .before .if1 .taken), a .pre .1)
+    (a .pre .0, length-passed (a .args .h) (a .args .state .now) (sym (n .before .state-answer .ensures) ∙ sym (n .number .ensures) ∙ c .before .if1 .taken), a .pre .1, a .pre .2)
 
 returns : tie.Need-returns
 returns c =

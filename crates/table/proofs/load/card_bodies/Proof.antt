@@ -4,20 +4,20 @@ use mathlib.Core.Path.{_≡_, sym, ap, _∙_}
 use lib.ListN.{length, getD, replicate, length-replicate}
 use Rattle.card.specs.Layout.{maxBodies}
 use Rattle.table.specs.Loop.{after}
-use Rattle.table.specs.Parts.{tickBodyAt, noTickBody}
+use Rattle.table.specs.Parts.{cardBodyAt, noTickBody}
 use Rattle.table.proofs.Loops.{after-none, after-turn, after-done, fill, fill-length, fill-at}
-use Rattle.table.proofs.load.tick_bodies.Statement.{statement}
-use Rattle.table.proofs.load.tick_bodies.Tie as tie
+use Rattle.table.proofs.load.card_bodies.Statement.{statement}
+use Rattle.table.proofs.load.card_bodies.Tie as tie
 
 abbrev Inv-loop : tie.InvT-loop
-Inv-loop card h state count table₀ i₀ table i = (i ≤ count) × (table ≡ after (fill (tickBodyAt card state)) (replicate maxBodies noTickBody) i)
+Inv-loop card h count table₀ i₀ table i = (i ≤ count) × (table ≡ after (fill (cardBodyAt card)) (replicate maxBodies noTickBody) i)
 
 abbrev μ-loop : tie.MeasureT-loop
-μ-loop card h state count table₀ i₀ table i = count - i
+μ-loop card h count table₀ i₀ table i = count - i
 
 -- a turn's body has its place
 inside : (c : tie.In-loop Inv-loop μ-loop) → c .before .loop .i < maxBodies
-inside c = omega (arith, c .loop-test .taken, c .before .before .before .before .pre .0 .few-bodies)
+inside c = omega (arith, c .loop-test .taken, c .before .before .before .pre .few-bodies)
 
 loop-holds : tie.Need-loop-holds Inv-loop μ-loop
 loop-holds c = (omega arith, sym (after-none _ _))
@@ -25,24 +25,24 @@ loop-holds c = (omega arith, sym (after-none _ _))
 loop-again : tie.Need-loop-again Inv-loop μ-loop
 loop-again c =
     let l = c .before .before .loop in
-    (omega (arith, l .inv .0, c .before .loop-test .taken), after-turn _ _ (l .inv .1) (rw (c .tick-body-at .ensures)))
+    (omega (arith, l .inv .0, c .before .loop-test .taken), after-turn _ _ (l .inv .1) (rw (c .card-body-at .ensures)))
 
 returns : tie.Need-returns Inv-loop μ-loop
 returns c =
     let l = c .before .loop in
-    let a = c .before .before .before .before in
-    let v = tickBodyAt (a .args .card .now) (a .args .state .now) in
+    let a = c .before .before .before in
+    let v = cardBodyAt (a .args .card .now) in
     let e = after-done (fill v) (replicate maxBodies noTickBody) (l .inv .1) (l .inv .0) (c .loop-test .left) in
     record {
       places = ap (λ t. length t) e ∙ fill-length v (replicate maxBodies noTickBody) (a .args .h .bodies) ∙ length-replicate maxBodies noTickBody;
-      each = λ i k. ap (λ t. getD t i noTickBody) e ∙ fill-at v (replicate maxBodies noTickBody) noTickBody i (a .args .h .bodies) k (rw (length-replicate maxBodies noTickBody) (a .pre .0 .few-bodies));
+      each = λ i k. ap (λ t. getD t i noTickBody) e ∙ fill-at v (replicate maxBodies noTickBody) noTickBody i (a .args .h .bodies) k (rw (length-replicate maxBodies noTickBody) (a .pre .few-bodies));
     }
 
-pub tick-bodies-spec : {M : Type 1} → statement M
-tick-bodies-spec =
+pub card-bodies-spec : {M : Type 1} → statement M
+card-bodies-spec =
     tie.close
     (tie.spec Inv-loop μ-loop
     loop-holds
-    (λ c κs. (c .before .before .before .before .pre .0, c .before .before .before .before .pre .1, c .loop-test .taken))
+    (λ c κs. (c .before .before .before .pre, c .loop-test .taken))
     (λ c. omega (arith, inside (c .before))) (λ c. omega (arith, inside (c .before)))
     (λ c. omega (arith, inside (c .before))) (λ c. omega (arith, c .before .loop-test .taken)) loop-again returns)
