@@ -24,11 +24,11 @@ use Rattle.joints.specs.declared.spherical.SphericalJoint.{SphericalJoint}
 use Rattle.joints.specs.declared.distance.DistanceJoint.{DistanceJoint}
 use Rattle.solver_body.specs.declared.BodyPair.{BodyPair}
 use Rattle.xpbd.specs.Multiplier.{lagrangeUpdate}
-use Rattle.xpbd.specs.Positional.{impulseApplied, separationOf, positionCorrected}
+use Rattle.xpbd.specs.Positional.{impulseApplied, separationOf, correctionImpulse, positionCorrected}
 use Rattle.xpbd.specs.Angular.{angularImpulseApplied, aligned}
 use Rattle.xpbd.specs.Point.{pointSolved}
 use Rattle.xpbd.specs.FixedAngle.{rotationDifference, angleCorrected, angleSolved}
-use Rattle.xpbd.specs.declared.positional_constraint.Corrected.{Corrected}
+use Rattle.xpbd.specs.declared.angular_constraint.Corrected.{Corrected}
 use Rattle.xpbd.specs.declared.point_constraint.PointConstraintShared.{PointConstraintShared}
 use Rattle.xpbd.specs.declared.point_constraint.PointSolved.{PointSolved}
 use Rattle.xpbd.specs.declared.fixed_angle_constraint.FixedAngleConstraintShared.{FixedAngleConstraintShared}
@@ -179,7 +179,7 @@ apart b r₁ r₂ d = separationOf b (turnOf (b .body1 .«delta_rotation») r₁
 -- a point, whatever the stage's name k
 point : (S : Setting) (k : Reads) (c : PointConstraintShared) (α : Float) (b : BodyPair) (t : Totals) → c .«total_lagrange» ≡ t .t₁
     → pushedBy S first (pointAsked (entryOf S k b) (c .«world_r1») (c .«world_r2») (c .«center_difference»)) α b t ≡ pointRun t (pointSolved c b (S .inertia1) (S .inertia2) α (S .dt))
-unfolding pointSolved positionCorrected
+unfolding pointSolved correctionImpulse positionCorrected
 point S k c α b t e =
     let v = eq (lengthSquaredOf (apart b (c .«world_r1») (c .«world_r2») (c .«center_difference»))) f0 in
     rw (← e) (swap v _ _ ∙ sym (through (pointRun t) v _ _))
@@ -204,7 +204,7 @@ ball-point S c = point S (ballPoint (c .«world_r1») (c .«world_r2») (c .«ce
 slide-align : (S : Setting) (o : DistanceLimitOption) (r₁ r₂ d axis : Vec3) (α : Float) (b : BodyPair) (t : Totals)
     → stepped S (compliant first (slideAlign o r₁ r₂ d axis) α) (from b t)
     ≡ stageRun first t (positionStage o b (S .inertia1) (S .inertia2) r₁ r₂ d axis (t .t₁) α (S .dt))
-unfolding positionStage positionCorrected correctionOf afterOf impulseOf multiplierOf
+unfolding positionStage correctionImpulse positionCorrected correctionOf afterOf impulseOf multiplierOf
 slide-align S o r₁ r₂ d axis α b t =
     let v = le (lengthOf (slideCorrection o (apart b r₁ r₂ d) (turnOf (b .body1 .«delta_rotation») axis))) epsilon in
     swap v _ _ ∙ sym (through (stageRun first t) v _ _)
@@ -308,7 +308,7 @@ tetherRun s = record { bodies = s .bodies; totals = tetherTotals (s .«solver_da
 
 pub tether-is-steps : (S : Setting) (j : DistanceJoint) (k : DistanceJointSolverData) (b : BodyPair)
     → run S (tetherSteps j k) (from b (tetherTotals k)) ≡ tetherRun (distanceSolved j k b (S .inertia1) (S .inertia2) (S .dt))
-unfolding run distanceSolved positionCorrected correctionOf afterOf impulseOf multiplierOf
+unfolding run distanceSolved correctionImpulse positionCorrected correctionOf afterOf impulseOf multiplierOf
 tether-is-steps S j k b =
     let v = le (distanceCorrection (j .limits) (apart b (k .«world_r1») (k .«world_r2») (k .«center_difference»)) .magnitude) epsilon in
     swap v _ _ ∙ sym (through tetherRun v _ _)

@@ -11,7 +11,7 @@ use Rattle.solver_body.specs.Body.{withDelta}
 use Rattle.solver_body.specs.declared.SolverBody.{SolverBody}
 use Rattle.solver_body.specs.declared.BodyPair.{BodyPair}
 use Rattle.xpbd.specs.Multiplier.{lagrangeUpdate}
-use Rattle.xpbd.specs.declared.positional_constraint.Corrected.{Corrected}
+use Rattle.xpbd.specs.declared.angular_constraint.Corrected.{Corrected}
 
 -- (11), (12): w = n · I⁻¹ n
 unfoldable pub angularInverseMass : SymmetricTensor → Vec3 → Float

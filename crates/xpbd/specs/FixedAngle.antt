@@ -8,7 +8,7 @@ use Rattle.vector.specs.declared.Quat.{Quat}
 use Rattle.vector.specs.declared.SymmetricTensor.{SymmetricTensor}
 use Rattle.solver_body.specs.declared.BodyPair.{BodyPair}
 use Rattle.xpbd.specs.Angular.{aligned}
-use Rattle.xpbd.specs.declared.positional_constraint.Corrected.{Corrected}
+use Rattle.xpbd.specs.declared.angular_constraint.Corrected.{Corrected}
 use Rattle.xpbd.specs.declared.fixed_angle_constraint.FixedAngleConstraintShared.{FixedAngleConstraintShared}
 use Rattle.xpbd.specs.declared.fixed_angle_constraint.FixedAngleSolved.{FixedAngleSolved}
 

@@ -13,7 +13,7 @@ use Rattle.solver_body.specs.declared.SolverBody.{SolverBody}
 use Rattle.solver_body.specs.declared.SolverBodyInertia.{SolverBodyInertia}
 use Rattle.solver_body.specs.declared.BodyPair.{BodyPair}
 use Rattle.xpbd.specs.Multiplier.{lagrangeUpdate}
-use Rattle.xpbd.specs.declared.positional_constraint.Corrected.{Corrected}
+use Rattle.xpbd.specs.declared.angular_constraint.Corrected.{Corrected}
 
 -- (2), (3): w = m⁻¹ + (r × n) · I⁻¹ (r × n)
 unfoldable pub generalizedInverseMass : Float → SymmetricTensor → Vec3 → Vec3 → Float
@@ -48,10 +48,14 @@ impulseApplied b i₁ i₂ p r₁ r₂ =
 unfoldable pub weight : SolverBodyInertia → Vec3 → Vec3 → Float
 weight i r n = generalizedInverseMass (maxElement (effectiveInvMass i)) (i .«inv_angular_inertia») r n
 
--- (2) to (9): the correction of the error c along n at the arms r₁ and r₂, with the impulse p = Δλ n
+-- (2) to (4): the impulse p = Δλ n that corrects the error c along n at the arms r₁ and r₂
+unfoldable pub correctionImpulse : SolverBodyInertia → SolverBodyInertia → Vec3 → Vec3 → Vec3 → Float → Float → Float → Vec3
+correctionImpulse i₁ i₂ r₁ r₂ n c α h = scaleOf n (lagrangeUpdate f0 c (weight i₁ r₁ n) (weight i₂ r₂ n) α h)
+
+-- (2) to (9): the bodies after it, and the impulse
 unfoldable pub positionCorrected : BodyPair → SolverBodyInertia → SolverBodyInertia → Vec3 → Vec3 → Vec3 → Float → Float → Float → Corrected
 positionCorrected b i₁ i₂ r₁ r₂ n c α h =
-    let p = scaleOf n (lagrangeUpdate f0 c (weight i₁ r₁ n) (weight i₂ r₂ n) α h) in
+    let p = correctionImpulse i₁ i₂ r₁ r₂ n c α h in
     record { bodies = impulseApplied b i₁ i₂ p r₁ r₂; lagrange = p }
 
 -- from a body's centre of mass to an anchor, in world axes

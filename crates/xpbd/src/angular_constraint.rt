@@ -1,6 +1,5 @@
 // A correction about a given axis (src/dynamics/solver/xpbd/angular_constraint.rs).
 use crate::compute_lagrange_update;
-use crate::positional_constraint::Corrected;
 use scalar::EPSILON;
 use solver_body::BodyPair;
 use solver_body::SolverBody;
@@ -12,6 +11,12 @@ ghost use lib.Ieee.{neg};
 ghost use Rattle.vector.specs.Vector.{negOf, scaleOf};
 ghost use Rattle.xpbd.specs.Positional.{pair};
 ghost use Rattle.xpbd.specs.Angular.{angularInverseMass, angularDeltaRot, turned, angularImpulseApplied, aligned};
+
+// Both bodies after a correction, and what it adds to the constraint's total.
+pub struct Corrected {
+    pub bodies: BodyPair,
+    pub lagrange: Vec3,
+}
 
 pub fn compute_generalized_inverse_mass(inv_angular_inertia: SymmetricTensor, axis: Vec3) -> f32
     ensures { λ w. ⌜ w ≡ angularInverseMass «inv_angular_inertia» axis ⌝ }

@@ -9,13 +9,7 @@ use vector::SymmetricTensor;
 use vector::Vec3;
 ghost use mathlib.Core.Path.{_≡_};
 ghost use Rattle.solver_body.specs.Body.{effectiveInvMass};
-ghost use Rattle.xpbd.specs.Positional.{generalizedInverseMass, deltaRot, pushed, pulled, pair, impulseApplied, weight, positionCorrected, anchorArm, centerDifference, separationOf};
-
-// Both bodies after a correction, and what it adds to the constraint's total.
-pub struct Corrected {
-    pub bodies: BodyPair,
-    pub lagrange: Vec3,
-}
+ghost use Rattle.xpbd.specs.Positional.{generalizedInverseMass, deltaRot, pushed, pulled, pair, impulseApplied, weight, correctionImpulse, anchorArm, centerDifference, separationOf};
 
 pub fn compute_generalized_inverse_mass(
     inv_mass: f32,
@@ -101,8 +95,7 @@ pub fn weight(inertia: SolverBodyInertia, r: Vec3, n: Vec3) -> f32
     )
 }
 
-pub fn apply_positional_correction(
-    bodies: BodyPair,
+pub fn correction_impulse(
     inertia1: SolverBodyInertia,
     inertia2: SolverBodyInertia,
     r1: Vec3,
@@ -111,17 +104,12 @@ pub fn apply_positional_correction(
     magnitude: f32,
     compliance: f32,
     dt: f32,
-) -> Corrected
-    ensures { λ s. ⌜ s ≡ positionCorrected bodies inertia1 inertia2 r1 r2 dir magnitude compliance dt ⌝ }
+) -> Vec3
+    ensures { λ p. ⌜ p ≡ correctionImpulse inertia1 inertia2 r1 r2 dir magnitude compliance dt ⌝ }
 {
     let w1 = weight(inertia1, r1, dir);
     let w2 = weight(inertia2, r2, dir);
-    let impulse = dir.scale(compute_lagrange_update(0.0, magnitude, w1, w2, compliance, dt));
-    let moved = positional_impulse(bodies, inertia1, inertia2, impulse, r1, r2);
-    Corrected {
-        bodies: moved,
-        lagrange: impulse,
-    }
+    dir.scale(compute_lagrange_update(0.0, magnitude, w1, w2, compliance, dt))
 }
 
 // From a body's centre of mass to an anchor, in world axes.

@@ -9,7 +9,7 @@ use Rattle.solver_body.specs.declared.RigidBody.{RigidBody}
 use Rattle.solver_body.specs.declared.SolverBodyInertia.{SolverBodyInertia}
 use Rattle.solver_body.specs.declared.BodyPair.{BodyPair}
 use Rattle.xpbd.specs.Positional.{positionCorrected, anchorArm, centerDifference, separationOf}
-use Rattle.xpbd.specs.declared.positional_constraint.Corrected.{Corrected}
+use Rattle.xpbd.specs.declared.angular_constraint.Corrected.{Corrected}
 use Rattle.xpbd_joints.specs.declared.distance.DistanceJointSolverData.{DistanceJointSolverData}
 use Rattle.xpbd_joints.specs.declared.distance.DistanceSolved.{DistanceSolved}
 

@@ -11,7 +11,7 @@ use Rattle.joints.specs.declared.motor.MotorLagrange.{MotorLagrange}
 use Rattle.joints.specs.declared.motor.MotorLagrange.the-variants as motor
 use Rattle.solver_body.specs.declared.BodyPair.{BodyPair}
 use Rattle.xpbd.specs.Angular.{aligned}
-use Rattle.xpbd.specs.declared.positional_constraint.Corrected.{Corrected}
+use Rattle.xpbd.specs.declared.angular_constraint.Corrected.{Corrected}
 use Rattle.xpbd_joints.specs.declared.StageSolved.{StageSolved}
 
 abbrev pub unchanged : BodyPair → Vec3 → StageSolved

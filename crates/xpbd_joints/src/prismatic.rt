@@ -13,8 +13,8 @@ use vector::SymmetricTensor;
 use vector::Vec3;
 use xpbd::fixed_angle_constraint::FixedAngleConstraintShared;
 use xpbd::positional_constraint::anchor_arm;
-use xpbd::positional_constraint::apply_positional_correction;
 use xpbd::positional_constraint::center_difference;
+use xpbd::positional_constraint::correction_impulse;
 use xpbd::positional_constraint::positional_impulse;
 use xpbd::positional_constraint::separation;
 use xpbd::positional_constraint::weight;
@@ -322,8 +322,7 @@ fn constrain_positions(
             total_lagrange,
         };
     }
-    let corrected = apply_positional_correction(
-        bodies,
+    let impulse = correction_impulse(
         inertia1,
         inertia2,
         r1,
@@ -333,10 +332,10 @@ fn constrain_positions(
         compliance,
         dt,
     );
-    let moved = corrected.bodies;
+    let moved = positional_impulse(bodies, inertia1, inertia2, impulse, r1, r2);
     StageSolved {
         bodies: moved,
-        total_lagrange: total_lagrange.add(corrected.lagrange),
+        total_lagrange: total_lagrange.add(impulse),
     }
 }
 
