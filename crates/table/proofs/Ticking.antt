@@ -29,7 +29,7 @@ use Rattle.card_records.proofs.Starting.{state-refused, state-accepted}
 use Rattle.table.specs.Loop.{after}
 use Rattle.table.specs.Tick.{Solved, bodyStateAt, bodyStateNumbers, storeTotals, anchoredAt, rigidAt, preSolve, before, newBody, newFault, storeBody, stored, finished, tickAccepted}
 use Rattle.table.specs.Run.{tickOf, tickNext, runOf}
-use Rattle.table.specs.Parts.{SoundCard, SoundState, cardBodyAt, standing, tickBodyAt, noTickBody, TickBodies, finishedOr, finishedAt, storeNew, tickChecked}
+use Rattle.table.specs.Parts.{SoundCard, SoundState, cardBodyAt, standing, tickBodyAt, noTickBody, TickBodies, finishedOr, finishedAt, storeNew, ticksOf}
 use Rattle.table.specs.declared.load.TickBody.{TickBody}
 use Rattle.table.proofs.Loops.{after-none, after-more, after-done, after-kept, any-same}
 use Rattle.table.proofs.Turns.{valid-as}
@@ -150,14 +150,6 @@ none-first zero n e = refl
 none-first (suc m) n e = e
 
 module _ (card : List ℕ) (s : List Float) where
-  pub checked-refused : (h : Header) (k : ℕ) → k ≡ stateFault (h .bodies) (h .joints) s → (k ≡ 0 → ⊥) → answered k s ≡ tickChecked card h s
-  unfolding tickChecked
-  checked-refused h k e x = rw (← e, ne-eqb k 0 x)
-
-  pub checked-accepted : (h : Header) → stateFault (h .bodies) (h .joints) s ≡ 0 → tickAccepted card h s ≡ tickChecked card h s
-  unfolding tickChecked
-  checked-accepted h e = rw (eq-eqb _ _ e)
-
   pub card-passed : checkStateOf card s ≡ 0 → checkOf card ≡ 0
   unfolding checkStateOf
   card-passed e = none-first (checkOf card) _ e
@@ -166,11 +158,16 @@ module _ (card : List ℕ) (s : List Float) where
   unfolding tickOf
   tick-refused k e x = rw (← state-refused card s k e x, ne-eqb k 0 x)
 
-  pub tick-checked : checkOf card ≡ 0 → {h : Header} → h ≡ headerAt card → tickChecked card h s ≡ tickOf card s
-  unfolding tickOf tickChecked
-  tick-checked e eh = rw (eh, state-accepted card s e refl)
+  module _ (e : checkOf card ≡ 0) {h : Header} (eh : h ≡ headerAt card) where
+    pub state-refused-tick : (k : ℕ) → k ≡ stateFault (h .bodies) (h .joints) s → (k ≡ 0 → ⊥) → answered k s ≡ tickOf card s
+    unfolding tickOf
+    state-refused-tick k ek x = let f = (rw eh at ek) ∙ state-accepted card s e refl in rw (← f, ne-eqb k 0 x)
 
--- ---- a run
+    pub accepted-tick : stateFault (h .bodies) (h .joints) s ≡ 0 → tickAccepted card h s ≡ tickOf card s
+    unfolding tickOf
+    accepted-tick f = let g = sym (state-accepted card s e refl) ∙ (rw eh at f) in rw (eh, eq-eqb _ _ g)
+
+-- ---- ticks in a row
 
 module _ (card : List ℕ) (s₀ : List Float) where
   pub run-refused : (k : ℕ) → k ≡ checkStateOf card s₀ → (k ≡ 0 → ⊥) → (ticks : ℕ) → answered k s₀ ≡ runOf card s₀ ticks
@@ -179,23 +176,30 @@ module _ (card : List ℕ) (s₀ : List Float) where
       let start = answered (checkStateOf card s₀) s₀ in
       sym (after-kept (tickNext card) start 0 ticks (omega arith) (λ m. rw (after-none (tickNext card) start, ← e, ne-eqb k 0 x)) ∙ rw (after-none (tickNext card) start, e))
 
-  pub run-none : checkStateOf card s₀ ≡ 0 → answered 0 s₀ ≡ runOf card s₀ 0
-  unfolding runOf
-  run-none e = rw (after-none, e)
+  pub run-is : checkStateOf card s₀ ≡ 0 → (ticks : ℕ) → ticksOf card s₀ ticks ≡ runOf card s₀ ticks
+  unfolding runOf ticksOf
+  run-is e ticks = rw e
 
-  module _ (i : ℕ) {s s′ : List Float} {k : ℕ} (inv : answered 0 s ≡ runOf card s₀ i) (e : answered k s′ ≡ tickOf card s) where
-    turn : answered k s′ ≡ runOf card s₀ (i + 1)
-    unfolding runOf tickNext
+  pub tick-is : ticksOf card s₀ 1 ≡ tickOf card s₀
+  unfolding ticksOf tickNext after
+  tick-is = refl
+
+  pub ticks-none : answered 0 s₀ ≡ ticksOf card s₀ 0
+  unfolding ticksOf
+  ticks-none = sym (after-none _ _)
+
+  module _ (i : ℕ) {s s′ : List Float} {k : ℕ} (inv : answered 0 s ≡ ticksOf card s₀ i) (e : answered k s′ ≡ tickOf card s) where
+    turn : answered k s′ ≡ ticksOf card s₀ (i + 1)
+    unfolding ticksOf tickNext
     turn = rw (after-more, ← inv) e
 
-    pub run-more : k ≡ 0 → answered 0 s′ ≡ runOf card s₀ (i + 1)
-    run-more z = rw z at turn
+    pub ticks-more : k ≡ 0 → answered 0 s′ ≡ ticksOf card s₀ (i + 1)
+    ticks-more z = rw z at turn
 
-    pub run-stop : {ticks : ℕ} → i < ticks → (k ≡ 0 → ⊥) → answered k s′ ≡ runOf card s₀ ticks
-    unfolding runOf tickNext
-    run-stop {ticks} h r =
-        turn
-        ∙ sym (after-kept (tickNext card) (answered (checkStateOf card s₀) s₀) (i + 1) ticks (omega arith) (λ m. rw (← turn, ne-eqb k 0 r)))
+    pub ticks-stop : {ticks : ℕ} → i < ticks → (k ≡ 0 → ⊥) → answered k s′ ≡ ticksOf card s₀ ticks
+    unfolding ticksOf tickNext
+    ticks-stop {ticks} h r =
+        turn ∙ sym (after-kept (tickNext card) (answered 0 s₀) (i + 1) ticks (omega arith) (λ m. rw (← turn, ne-eqb k 0 r)))
 
-  pub run-done : {i ticks : ℕ} {s : List Float} → answered 0 s ≡ runOf card s₀ i → i ≤ ticks → ticks ≤ i → answered 0 s ≡ runOf card s₀ ticks
-  run-done {i} {ticks} {s} inv a b = let q : ticks ≡ i = omega arith in rw q inv
+  pub ticks-done : {i ticks : ℕ} {s : List Float} → answered 0 s ≡ ticksOf card s₀ i → i ≤ ticks → ticks ≤ i → answered 0 s ≡ ticksOf card s₀ ticks
+  ticks-done {i} {ticks} {s} inv a b = let q : ticks ≡ i = omega arith in rw q inv

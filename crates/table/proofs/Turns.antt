@@ -38,7 +38,7 @@ use Rattle.table.specs.Loop.{after}
 use Rattle.table.specs.Tick.{Solved, bodyStateAt, noJoint, anchoredAt, rigidAt, putMoving, loadNext, knownJoint, loaded, warmStarted, firstBody, secondBody, preparedAt, pairAt, putPair, warmStartedAt, warmStartNext, integrateNext, preSolve, solvedAt, stop, solveNext, before}
 use Rattle.table.specs.Parts.{SoundCard, indexOf, cardBodyAt, standing, tickBodyAt, noTickBody, CardBodies, TickBodies, moved, integratedOr, CardJoints, warmValueAt, warmStartedWith, solvedWith}
 use Rattle.table.specs.declared.load.TickBody.{TickBody}
-use Rattle.table.proofs.Loops.{after-turn, after-kept, after-all, getD-in, fill, fill-length, fill-at, fill-past}
+use Rattle.table.proofs.Loops.{after-turn, after-done, after-kept, after-all, getD-in, fill, fill-length, fill-at, fill-past}
 
 -- ---- what a read past an array's end would give
 
@@ -131,10 +131,10 @@ module _ (card : List ℕ) (s : List Float) (n : ℕ) (few : n ≤ maxBodies) (t
 
   -- ---- gravity, locks and deltas
 
-  pub integrate-turn : (h : Header) (t : List Float) (i : ℕ) → i < n → (bodies : List SolverBody) → length bodies ≡ maxBodies → {b : SolverBody} {dt : Float}
-      → dt ≡ dtOf h → b ≡ integratedOr (at i) (getD bodies i unreadBody) (h .gravity) dt → set bodies i b ≡ integrateNext card h t i bodies
+  pub integrate-turn : (h : Header) (i : ℕ) → i < n → (bodies : List SolverBody) → length bodies ≡ maxBodies → {b : SolverBody} {dt : Float}
+      → dt ≡ dtOf h → b ≡ integratedOr (at i) (getD bodies i unreadBody) (h .gravity) dt → set bodies i b ≡ integrateNext card h s i bodies
   unfolding integratedOr tickBodyAt standing cardBodyAt
-  integrate-turn h t i k bodies lb ed eb =
+  integrate-turn h i k bodies lb ed eb =
       let read = getD-in bodies i unreadBody dummyBody (rw lb (omega arith)) in
       rw (eb, ed)
       (put-is i k bodies (integrated (getD bodies i unreadBody) (at i .inertia) (h .gravity) (dtOf h))
@@ -145,6 +145,11 @@ module _ (card : List ℕ) (s : List Float) (n : ℕ) (few : n ≤ maxBodies) (t
 moving-length : (a : Bool) (bodies : List SolverBody) (i : ℕ) (b : SolverBody) → length (if a then bodies else set bodies i b) ≡ length bodies
 moving-length true bodies i b = refl
 moving-length false bodies i b = length-set bodies i b
+
+pub loaded-done : (card : List ℕ) (h : Header) (s : List Float) → SoundCard card h → {i : ℕ} {bodies : List SolverBody}
+    → bodies ≡ after (loadNext card s) (replicate maxBodies dummyBody) i → i ≤ h .bodies → h .bodies ≤ i → bodies ≡ loaded card h s
+unfolding loaded
+loaded-done card h s S e a b = after-done _ _ e a b
 
 module _ (card : List ℕ) (h : Header) (s : List Float) where
   pub loaded-length : length (loaded card h s) ≡ maxBodies

@@ -4,7 +4,6 @@ use mathlib.Core.Bool.{Bool}
 use mathlib.Core.Path.{_≡_}
 use mathlib.Core.List.{List}
 use lib.ListN.{length, getD}
-use lib.Dec.{eqb}
 use lib.Seq.{sets}
 use lib.Ieee.{Float}
 use Rattle.scalar.specs.Arith.{if_then_else_}
@@ -26,8 +25,10 @@ use Rattle.card.specs.Layout.{maxBodies, maxJoints, maxRate, jointPlace, bodyNu
 use Rattle.card.specs.Records.{jointBits, dtOf}
 use Rattle.card.specs.declared.records.Header.{Header}
 use Rattle.card_records.specs.Decode.{inertiaAt, centerOfMassAt, jointAt}
-use Rattle.card_records.specs.State.{stateFault, Answered, answered}
-use Rattle.table.specs.Tick.{bodyStateAt, bodyStateNumbers, totalsAt, noJoint, anchoredAt, knownJoint, tickAccepted}
+use Rattle.card_records.specs.State.{Answered, answered}
+use Rattle.table.specs.Loop.{after}
+use Rattle.table.specs.Tick.{bodyStateAt, bodyStateNumbers, totalsAt, noJoint, anchoredAt, knownJoint}
+use Rattle.table.specs.Run.{tickNext}
 use Rattle.table.specs.declared.load.TickBody.{TickBody}
 
 -- what no check refuses has this
@@ -138,7 +139,6 @@ pub record Ready (card : List ℕ) (h : Header) (s : List Float) (table : List T
   pub whole : SoundState h s
   pub stands : TickBodies card s (h .bodies) table
 
-unfoldable pub tickChecked : List ℕ → Header → List Float → Answered
-tickChecked card h s =
-    let fault = stateFault (h .bodies) (h .joints) s in
-    if eqb fault 0 then tickAccepted card h s else answered fault s
+-- ticks in a row
+unfoldable pub ticksOf : List ℕ → List Float → ℕ → Answered
+ticksOf card s ticks = after (tickNext card) (answered 0 s) ticks
