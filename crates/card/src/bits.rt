@@ -7,7 +7,7 @@ ghost use Rattle.card.specs.Bits.{byteAt, bits16, bits24, bits32, floatA
 use vector::Quat;
 use vector::Vec3;
 
-pub fn byte_at(card: &[u8], at: usize) -> u32
+fn byte_at(card: &[u8], at: usize) -> u32
     requires { ⌜ at < length (now card) ⌝ }
     ensures { λ r. ⌜ (r ≡ byteAt (now (card .entry)) at) × (r < 256) ⌝ }
 {
@@ -37,7 +37,7 @@ pub fn bits32_at(card: &[u8], at: usize) -> u32
 }
 
 // Whether 32 bits are the pattern of a NaN.
-pub fn nan_bits(w: u32) -> bool
+fn nan_bits(w: u32) -> bool
     ensures { λ r. ⌜ r ≡ nanBits binary32 w ⌝ }
 {
     w % 0x8000_0000 > 0x7f80_0000

@@ -53,10 +53,6 @@ boundOf bodies n = if ltb n (bodyNumbers * bodies) && ltb (n % bodyNumbers) 3 th
 unfoldable pub numberFault : ℕ → List Float → ℕ → Bool
 numberFault bodies s n = let m = boundOf bodies n in outside (getD s n nan) (neg m) m
 
--- number at + k is not finite, or over m in size
-unfoldable pub overAt : List Float → ℕ → Float → ℕ → Bool
-overAt s at m k = outside (getD s (at + k) nan) (neg m) m
-
 abbrev pub stateChecks : ℕ → ℕ → List Float → List Refusal
 stateChecks bodies joints s =
     refuse 11 (not (eqb (length s) (stateLength bodies joints)))

@@ -8,7 +8,8 @@ ghost use Rattle.card.specs.Layout.{bodyPlace, bodyNumbers, maxBodies, maxJoint
 ghost use Rattle.card.specs.Loop.{anyTo};
 ghost use Rattle.scalar.specs.Arith.{f0};
 ghost use Rattle.card.specs.Answer.{numberOf};
-ghost use Rattle.card_records.specs.State.{numbers3, numbers4, numbersOf, startTo, overAt, numberFault, stateFault, checkStateOf, answered, startAccepted, startOf};
+ghost use Rattle.card_records.specs.State.{numbers3, numbers4, numbersOf, startTo, numberFault, stateFault, checkStateOf, answered, startAccepted, startOf};
+ghost use Rattle.card_records.specs.Parts.{overAt};
 use crate::body::body_at;
 use card::answer::Answer;
 use card::checks::check;

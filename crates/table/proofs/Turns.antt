@@ -23,7 +23,8 @@ use Rattle.xpbd_joints.specs.Revolute.{revoluteWarmStarted}
 use Rattle.xpbd_joints.specs.Prismatic.{prismaticWarmStarted}
 use Rattle.xpbd_plugin.specs.Joint.{jointPrepared, jointWarmStarted}
 use Rattle.tick.specs.Body.{solverBodyOf, integrated}
-use Rattle.tick.specs.Joint.{noTotals, resultOf}
+use Rattle.tick.specs.Joint.{noTotals}
+use Rattle.tick.specs.Parts.{resultOf}
 use Rattle.tick.specs.declared.body.BodyState.{BodyState}
 use Rattle.tick.proofs.WarmValue.{any-warm-value}
 use Rattle.tick.specs.declared.joint.JointTotals.{JointTotals}

@@ -2,7 +2,7 @@
 ghost use mathlib.Core.Path.{_≡_};
 ghost use Prim.Native.Nat.{_+_, _*_, _≤_, _<_};
 ghost use lib.ListN.{length};
-ghost use Rattle.card.specs.Layout.{maxBodies, bodyNumbers, jointNumbers};
+ghost use Rattle.card.specs.Layout.{maxBodies, bodyBytes, bodyPlace, bodyNumbers, jointNumbers};
 ghost use Rattle.table.specs.Tick.{vec3In, quatIn, bodyStateAt, totalsPlace, totalsAt};
 ghost use Rattle.table.specs.Parts.{SoundCard, indexOf, cardBodyAt, CardBodies, standing, moved, integratedOr};
 use card::layout::BODY_NUMBERS;
@@ -110,8 +110,8 @@ pub fn moved(index: SolverBodyIndex, old: SolverBody, new: SolverBody) -> Solver
     if index.is_valid() { new } else { old }
 }
 
-fn card_body_at(card: &[u8], h: Header, i: usize) -> TickBody
-    requires { ⌜ SoundCard (now card) h × (i < h .bodies) ⌝ }
+fn card_body_at(card: &[u8], i: usize) -> TickBody
+    requires { ⌜ (i < maxBodies) × (bodyPlace i + bodyBytes ≤ length (now card)) ⌝ }
     ensures { λ r. ⌜ r ≡ cardBodyAt (now (card .entry)) i ⌝ }
 {
     TickBody {
@@ -134,7 +134,7 @@ pub fn card_bodies(card: &[u8], h: Header) -> [TickBody; MAX_BODIES]
     let mut table = [TickBody::NONE; MAX_BODIES];
     let mut i = 0;
     while i < count {
-        let b = card_body_at(card, h, i);
+        let b = card_body_at(card, i);
         table[i] = b;
         i += 1;
     }

@@ -12,8 +12,6 @@ use Rattle.xpbd_plugin.specs.declared.PreparedJoint.the-variants.{Fixed, Revolu
 use Rattle.xpbd_plugin.specs.declared.JointSolved.{JointSolved}
 use Rattle.tick.specs.Finite.{finite3, finite4, bodyFinite}
 use Rattle.tick.specs.declared.joint.JointTotals.{JointTotals}
-use Rattle.tick.specs.declared.joint.JointKept.{JointKept}
-use Rattle.tick.specs.declared.joint.JointResult.{JointResult}
 
 -- ---- totals, in the order of document 01's 'State'
 
@@ -67,19 +65,3 @@ totalsFinite t = finite3 (t .first) && finite3 (t .second) && finite3 (t .third)
 
 unfoldable pub jointFinite : JointSolved → Bool
 jointFinite s = preparedFinite (s .joint) && totalsFinite (totalsOf (s .joint)) && bodyFinite (s .bodies .body1) && bodyFinite (s .bodies .body2)
-
--- what a tick keeps of a joint's solve
-unfoldable pub resultOf : JointSolved → JointResult
-resultOf s = record { finite = jointFinite s; bodies = s .bodies; totals = totalsOf (s .joint) }
-
--- the same in two steps, the first by kind
-unfoldable pub keptOf : JointSolved → JointKept
-keptOf s = record { «prepared_finite» = preparedFinite (s .joint); bodies = s .bodies; totals = totalsOf (s .joint) }
-
-unfoldable pub testedOf : JointKept → JointResult
-testedOf k =
-    record {
-      finite = k .«prepared_finite» && totalsFinite (k .totals) && bodyFinite (k .bodies .body1) && bodyFinite (k .bodies .body2);
-      bodies = k .bodies;
-      totals = k .totals;
-    }

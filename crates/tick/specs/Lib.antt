@@ -1,3 +1,4 @@
 pub mod Finite
 pub mod Body
 pub mod Joint
+pub mod Parts

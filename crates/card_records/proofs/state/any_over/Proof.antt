@@ -3,7 +3,7 @@ use native.Mathlib.Omega.{arith}
 use mathlib.Core.Path.{_≡_, sym}
 use Rattle.card.specs.Loop.{anyTo}
 use Rattle.card.proofs.Loops.{any-none}
-use Rattle.card_records.specs.State.{overAt}
+use Rattle.card_records.specs.Parts.{overAt}
 use Rattle.card_records.proofs.Faults.{any-next}
 use Rattle.card_records.proofs.state.any_over.Statement.{statement}
 use Rattle.card_records.proofs.state.any_over.Tie as tie

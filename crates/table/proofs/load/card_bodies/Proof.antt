@@ -10,10 +10,10 @@ use Rattle.table.proofs.load.card_bodies.Statement.{statement}
 use Rattle.table.proofs.load.card_bodies.Tie as tie
 
 abbrev Inv-loop : tie.InvT-loop
-Inv-loop card h count table₀ i₀ table i = (i ≤ count) × (table ≡ after (fill (cardBodyAt card)) (replicate maxBodies noTickBody) i)
+Inv-loop card count table₀ i₀ table i = (i ≤ count) × (table ≡ after (fill (cardBodyAt card)) (replicate maxBodies noTickBody) i)
 
 abbrev μ-loop : tie.MeasureT-loop
-μ-loop card h count table₀ i₀ table i = count - i
+μ-loop card count table₀ i₀ table i = count - i
 
 -- a turn's body has its place
 inside : (c : tie.In-loop Inv-loop μ-loop) → c .before .loop .i < maxBodies
@@ -43,6 +43,6 @@ card-bodies-spec =
     tie.close
     (tie.spec Inv-loop μ-loop
     loop-holds
-    (λ c κs. (c .before .before .before .pre, c .loop-test .taken))
+    (λ c κs. let S = c .before .before .before .pre in (inside c, omega (arith, c .loop-test .taken, S .whole)))
     (λ c. omega (arith, inside (c .before))) (λ c. omega (arith, inside (c .before)))
     (λ c. omega (arith, inside (c .before))) (λ c. omega (arith, c .before .loop-test .taken)) loop-again returns)

@@ -1,4 +1,5 @@
-use Rattle.tick.specs.Joint.{jointFinite, resultOf, keptOf, testedOf}
+use Rattle.tick.specs.Joint.{jointFinite}
+use Rattle.tick.specs.Parts.{resultOf, keptOf, testedOf}
 use Rattle.tick.proofs.joint.solve_joint.Statement.{statement}
 use Rattle.tick.proofs.joint.solve_joint.Tie as tie
 

@@ -1,4 +1,4 @@
-use Rattle.tick.specs.Joint.{testedOf}
+use Rattle.tick.specs.Parts.{testedOf}
 use Rattle.tick.proofs.joint.tested.Statement.{statement}
 use Rattle.tick.proofs.joint.tested.Tie as tie
 
