@@ -13,11 +13,13 @@ use Rattle.card.specs.Layout.{maxBodies, maxJoints}
 use Rattle.card.specs.Loop.{anyTo}
 use Rattle.card.specs.Records.{headerAt, dtOf}
 use Rattle.card.specs.Checks.{checkOf}
-use Rattle.card_records.specs.State.{answered}
+use Rattle.card.specs.declared.records.Header.{Header}
+use Rattle.card_records.specs.State.{answered, stateFault}
 use Rattle.card.proofs.Accepted.{accepted}
 use Rattle.card.proofs.Loops.{any-none, any-more, any-done}
 use Rattle.table.specs.Loop.{after}
 use Rattle.table.specs.Tick.{Solved, noJoint, storeTotals, loadNext, loaded, warmStartNext, warmStarted, integrateNext, preSolve, before, storeBody, stored, tickAccepted}
+use Rattle.table.specs.Run.{tickOf}
 use Rattle.table.specs.Parts.{SoundCard, SoundState, tickBodyAt, CardBodies, CardJoints, finishedAt, storeMoving, Ready, ticksOf}
 use Rattle.table.proofs.Loops.{after-none, after-turn, after-done, fill}
 use Rattle.table.proofs.Turns.{unreadTickBody, unreadState, stand-turn, stands, load-turn, loaded-done, loaded-length, ends, warm-turn, warm-skip, warm-length, integrate-turn, pre-length, live, solve-more, solve-stop, solve-done}
@@ -113,9 +115,24 @@ abbrev μ-loop : tie.MeasureT-loop
 
 -- ---- the turns
 
--- the tick that is made
+-- the tick that is made, and what stands before it
 abbrev turn : tie.Else1 Inv-loop2 μ-loop2 Inv-loop3 μ-loop3 Inv-loop4 μ-loop4 Inv-loop5 μ-loop5 Inv-loop6 μ-loop6 Inv-loop7 μ-loop7 Inv-loop8 μ-loop8 Inv-loop μ-loop → tie.In-loop Inv-loop2 μ-loop2 Inv-loop3 μ-loop3 Inv-loop4 μ-loop4 Inv-loop5 μ-loop5 Inv-loop6 μ-loop6 Inv-loop7 μ-loop7 Inv-loop8 μ-loop8 Inv-loop μ-loop
 turn e = e .before .before .before .before
+
+abbrev card : tie.Else1 Inv-loop2 μ-loop2 Inv-loop3 μ-loop3 Inv-loop4 μ-loop4 Inv-loop5 μ-loop5 Inv-loop6 μ-loop6 Inv-loop7 μ-loop7 Inv-loop8 μ-loop8 Inv-loop μ-loop → List ℕ
+card e = turn e .before .before .before .before .before .before .before .args .card .now
+
+abbrev header : tie.Else1 Inv-loop2 μ-loop2 Inv-loop3 μ-loop3 Inv-loop4 μ-loop4 Inv-loop5 μ-loop5 Inv-loop6 μ-loop6 Inv-loop7 μ-loop7 Inv-loop8 μ-loop8 Inv-loop μ-loop → Header
+header e = turn e .before .before .before .before .header-at .result
+
+abbrev found : tie.Else1 Inv-loop2 μ-loop2 Inv-loop3 μ-loop3 Inv-loop4 μ-loop4 Inv-loop5 μ-loop5 Inv-loop6 μ-loop6 Inv-loop7 μ-loop7 Inv-loop8 μ-loop8 Inv-loop μ-loop → List Float
+found e = turn e .before .loop .state
+
+passed : (e : tie.Else1 Inv-loop2 μ-loop2 Inv-loop3 μ-loop3 Inv-loop4 μ-loop4 Inv-loop5 μ-loop5 Inv-loop6 μ-loop6 Inv-loop7 μ-loop7 Inv-loop8 μ-loop8 Inv-loop μ-loop) → stateFault (header e .bodies) (header e .joints) (found e) ≡ 0
+passed e = sym (e .before .before .state-answer .ensures) ∙ sym (e .before .number .ensures) ∙ e .if1 .left
+
+ticked : (e : tie.Else1 Inv-loop2 μ-loop2 Inv-loop3 μ-loop3 Inv-loop4 μ-loop4 Inv-loop5 μ-loop5 Inv-loop6 μ-loop6 Inv-loop7 μ-loop7 Inv-loop8 μ-loop8 Inv-loop μ-loop) → tickAccepted (card e) (header e) (found e) ≡ tickOf (card e) (found e)
+ticked e = let o = turn e .before .loop .inv in accepted-tick _ _ (o .3) (o .4) (passed e)
 
 loop-holds : tie.Need-loop-holds Inv-loop2 μ-loop2 Inv-loop3 μ-loop3 Inv-loop4 μ-loop4 Inv-loop5 μ-loop5 Inv-loop6 μ-loop6 Inv-loop7 μ-loop7 Inv-loop8 μ-loop8 Inv-loop μ-loop
 loop-holds c =
@@ -133,8 +150,7 @@ inside c = omega (arith, c .loop2-test .taken, c .before .loop2 .inv .3 .few-bod
 loop2-holds : tie.Need-loop2-holds Inv-loop2 μ-loop2 Inv-loop3 μ-loop3 Inv-loop4 μ-loop4 Inv-loop5 μ-loop5 Inv-loop6 μ-loop6 Inv-loop7 μ-loop7 Inv-loop8 μ-loop8 Inv-loop μ-loop
 loop2-holds c =
     let o = turn c .before .loop .inv in
-    let f = sym (c .before .before .state-answer .ensures) ∙ sym (c .before .number .ensures) ∙ c .if1 .left in
-    (omega arith, sym (after-none _ _), sym (after-none _ _), sound _ (accepted _ (o .3)) (o .4), length-passed (turn c .before .before .before .before .header-at .result) _ f, o .5, o .6)
+    (omega arith, sym (after-none _ _), sym (after-none _ _), sound _ (accepted _ (o .3)) (o .4), length-passed (header c) _ (passed c), o .5, o .6)
 
 loop2-again : tie.Need-loop2-again Inv-loop2 μ-loop2 Inv-loop3 μ-loop3 Inv-loop4 μ-loop4 Inv-loop5 μ-loop5 Inv-loop6 μ-loop6 Inv-loop7 μ-loop7 Inv-loop8 μ-loop8 Inv-loop μ-loop
 loop2-again c =
@@ -245,10 +261,9 @@ returns-2 c =
     let i = k .before .loop5 .inv in
     let e = k .before .before .before .before .before .before .before .before .before in
     let o = turn e .before .loop .inv in
-    let f = sym (e .before .before .state-answer .ensures) ∙ sym (e .before .number .ensures) ∙ e .if1 .left in
     let stopped = accepted-stopped _ _ _ (i .3 .sound) (i .3 .stands) (i .6)
     (solve-stop _ _ _ (i .3 .sound) _ (i .3 .stands) _ (i .4) _ _ (k .loop5-test .taken) _ (i .1) _ (b .joint-bits2 .ensures) (i .2) (c .before .before .solve-joint .ensures) (c .if3 .taken)) refl in
-    ticks-stop _ _ _ (o .2) (stopped ∙ accepted-tick _ _ (o .3) (o .4) f) (turn e .loop-test .taken) (λ z. omega (arith, z))
+    ticks-stop _ _ _ (o .2) (stopped ∙ ticked e) (turn e .loop-test .taken) (λ z. omega (arith, z))
 
 loop5-again : tie.Need-loop5-again Inv-loop2 μ-loop2 Inv-loop3 μ-loop3 Inv-loop4 μ-loop4 Inv-loop5 μ-loop5 Inv-loop6 μ-loop6 Inv-loop7 μ-loop7 Inv-loop8 μ-loop8 Inv-loop μ-loop
 loop5-again c =
@@ -280,11 +295,10 @@ returns-3 c =
     let i = k .before .loop6 .inv in
     let e = k .before .before .before .before .before .before .before .before .before .before .before in
     let o = turn e .before .loop .inv in
-    let f = sym (e .before .before .state-answer .ensures) ∙ sym (e .before .number .ensures) ∙ e .if1 .left in
     let m = c .before .before .finished-or .ensures ∙ finish-is _ _ _ _ _ (inside5 k) (i .3 .stands .places) (ap (λ l. length l) (i .5) ∙ pre-length _ _ _) (i .7) in
     let fault = accepted-fault _ _ _ (i .3 .sound) (i .3 .stands) (i .5) (i .6) refl _ (k .loop6-test .taken)
     (rw (← i .4) (ap bodyFault (sym m) ∙ sym (c .before .fault .ensures) ∙ c .if4 .taken)) in
-    ticks-stop _ _ _ (o .2) (fault ∙ accepted-tick _ _ (o .3) (o .4) f) (turn e .loop-test .taken) (λ z. omega (arith, z))
+    ticks-stop _ _ _ (o .2) (fault ∙ ticked e) (turn e .loop-test .taken) (λ z. omega (arith, z))
 
 loop6-again : tie.Need-loop6-again Inv-loop2 μ-loop2 Inv-loop3 μ-loop3 Inv-loop4 μ-loop4 Inv-loop5 μ-loop5 Inv-loop6 μ-loop6 Inv-loop7 μ-loop7 Inv-loop8 μ-loop8 Inv-loop μ-loop
 loop6-again c =
@@ -368,11 +382,10 @@ loop-again c =
     let b = x .before .loop7 .inv in
     let e = c .before .before .before .before .before .before .before .before .before .before .before .before .before .before .before in
     let o = turn e .before .loop .inv in
-    let f = sym (e .before .before .state-answer .ensures) ∙ sym (e .before .number .ensures) ∙ e .if1 .left in
     let made = all-stored _ _ _ (b .7) (after-done _ _ (b .2) (b .0) (x .loop7-test .left)) (i .2) (i .0) (c .loop8-test .left) (b .6) in (
       omega (arith, o .0, turn e .loop-test .taken),
       i .1 ∙ b .1 ∙ o .1,
-      ticks-more _ _ _ (o .2) (made ∙ accepted-tick _ _ (o .3) (o .4) f) refl,
+      ticks-more _ _ _ (o .2) (made ∙ ticked e) refl,
       o .3,
       o .4,
       o .5,
