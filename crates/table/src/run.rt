@@ -45,6 +45,7 @@ fn run_checked(card: &[u8], state: &mut [f32], ticks: u32) -> Answer
         if answer.number() != 0 {
             return answer;
         }
+        // The bodies where the state has them, and those of the solver.
         let mut table = card_bodies;
         let mut bodies = [SolverBody::DUMMY; MAX_BODIES];
         let mut k = 0;
@@ -56,6 +57,7 @@ fn run_checked(card: &[u8], state: &mut [f32], ticks: u32) -> Answer
             bodies[k] = b;
             k += 1;
         }
+        // The motors' warm start.
         let mut j = 0;
         while j < joints {
             let bits = joint_bits(card, count, j);
@@ -80,6 +82,7 @@ fn run_checked(card: &[u8], state: &mut [f32], ticks: u32) -> Answer
             bodies[second] = b2;
             j += 1;
         }
+        // Gravity, the locks, and the deltas of the velocities.
         let dt = h.dt();
         let mut i = 0;
         while i < count {
@@ -87,6 +90,7 @@ fn run_checked(card: &[u8], state: &mut [f32], ticks: u32) -> Answer
             bodies[i] = b;
             i += 1;
         }
+        // The solve.
         let pre_solve = bodies;
         let mut totals = [JointTotals::ZERO; MAX_JOINTS];
         j = 0;
@@ -113,6 +117,7 @@ fn run_checked(card: &[u8], state: &mut [f32], ticks: u32) -> Answer
             totals[j] = t;
             j += 1;
         }
+        // The new numbers: all of them are looked at before one is written.
         let mut new = [BodyState::REST; MAX_BODIES];
         i = 0;
         while i < count {
