@@ -27,7 +27,7 @@ use Rattle.card.specs.declared.records.Header.{Header}
 use Rattle.card_records.specs.State.{numberFault, stateFault, orElse, checkStateOf, Answered, answered}
 use Rattle.card_records.proofs.Starting.{state-refused, state-accepted}
 use Rattle.table.specs.Loop.{after}
-use Rattle.table.specs.Tick.{Solved, bodyStateAt, bodyStateNumbers, storeTotals, anchoredAt, rigidAt, preSolve, before, newBody, newFault, storeBody, stored, finished, tickAccepted}
+use Rattle.table.specs.Tick.{Solved, bodyStateNumbers, storeTotals, anchoredAt, rigidAt, preSolve, before, newBody, newFault, storeBody, stored, finished, tickAccepted}
 use Rattle.table.specs.Run.{tickOf, tickNext, runOf}
 use Rattle.table.specs.Parts.{SoundCard, SoundState, cardBodyAt, standing, tickBodyAt, noTickBody, TickBodies, finishedOr, finishedAt, storeNew, ticksOf}
 use Rattle.table.specs.declared.load.TickBody.{TickBody}

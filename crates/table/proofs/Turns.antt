@@ -97,8 +97,9 @@ module _ (card : List ℕ) (h : Header) (s : List Float) (few : h .bodies ≤ ma
       → a ≡ bodyStateAt s i → t ≡ standing (getD table i unreadTickBody) a → t ≡ tickBodyAt card s i
   unfolding tickBodyAt
   stand-turn i k et ea e =
-      let read = getD-in bodies i unreadTickBody noTickBody (rw (B .places) (omega arith)) ∙ B .each i k in
-      rw (e, ea, et) (ap (λ b. standing b (bodyStateAt s i)) (fill-past (tickBodyAt card s) bodies unreadTickBody i i (omega arith) ∙ read))
+      let past = fill-past (tickBodyAt card s) bodies unreadTickBody i i (omega arith) in
+      let read = getD-in bodies i unreadTickBody noTickBody (rw (B .places) (omega arith)) in
+      rw (e, ea, et) (ap (λ b. standing b (bodyStateAt s i)) (past ∙ read) ∙ B .each i k (bodyStateAt s i))
 
   pub stands : {i : ℕ} {table : List TickBody} → table ≡ stood i → i ≤ h .bodies → h .bodies ≤ i → TickBodies card s (h .bodies) table
   stands {i} {table} et a b =
@@ -108,6 +109,11 @@ module _ (card : List ℕ) (h : Header) (s : List Float) (few : h .bodies ≤ ma
         places = ap (λ t. length t) f ∙ fill-length (tickBodyAt card s) bodies (h .bodies) ∙ B .places;
         each = λ m k. ap (λ t. getD t m noTickBody) f ∙ fill-at (tickBodyAt card s) bodies noTickBody m (h .bodies) k (rw (B .places) few);
       }
+
+-- they are still the card's
+pub still-held : (card : List ℕ) (h : Header) (s : List Float) {table : List TickBody} → TickBodies card s (h .bodies) table → CardBodies card h table
+unfolding tickBodyAt standing
+still-held card h s T = record { places = T .places; each = λ i k at. ap (λ b. standing b at) (T .each i k) }
 
 pub load-turn : (card : List ℕ) (s : List Float) (i : ℕ) → i < maxBodies → (bodies : List SolverBody) {t : TickBody} {b c : SolverBody} {a : BodyState}
     → t ≡ tickBodyAt card s i → a ≡ bodyStateAt s i → c ≡ solverBodyOf a → b ≡ moved (t .index) (getD bodies i unreadBody) c → set bodies i b ≡ loadNext card s i bodies

@@ -79,10 +79,10 @@ noTickBody =
       inertia = dummyInertia;
     }
 
--- the card's bodies, each in its place
+-- the card's bodies, each in its place, wherever they stand
 pub record CardBodies (card : List ℕ) (h : Header) (table : List TickBody) : Type 0 where
   pub places : length table ≡ maxBodies
-  pub each : (i : ℕ) → i < h .bodies → getD table i noTickBody ≡ cardBodyAt card i
+  pub each : (i : ℕ) → i < h .bodies → (at : BodyState) → standing (getD table i noTickBody) at ≡ standing (cardBodyAt card i) at
 
 -- the bodies where the state has them
 pub record TickBodies (card : List ℕ) (s : List Float) (bodies : ℕ) (table : List TickBody) : Type 0 where

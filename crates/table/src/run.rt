@@ -37,7 +37,7 @@ fn run_checked(card: &[u8], state: &mut [f32], ticks: u32) -> Answer
     let h = header_at(card);
     let count = h.bodies;
     let joints = h.joints;
-    let card_bodies = card_bodies(card, h);
+    let mut table = card_bodies(card, h);
     let card_joints = card_joints(card, h);
     let mut done = 0;
     while done < ticks {
@@ -46,7 +46,6 @@ fn run_checked(card: &[u8], state: &mut [f32], ticks: u32) -> Answer
             return answer;
         }
         // The bodies where the state has them, and those of the solver.
-        let mut table = card_bodies;
         let mut bodies = [SolverBody::DUMMY; MAX_BODIES];
         let mut k = 0;
         while k < count {

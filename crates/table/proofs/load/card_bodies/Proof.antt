@@ -4,7 +4,7 @@ use mathlib.Core.Path.{_≡_, sym, ap, _∙_}
 use lib.ListN.{length, getD, replicate, length-replicate}
 use Rattle.card.specs.Layout.{maxBodies}
 use Rattle.table.specs.Loop.{after}
-use Rattle.table.specs.Parts.{cardBodyAt, noTickBody}
+use Rattle.table.specs.Parts.{cardBodyAt, standing, noTickBody}
 use Rattle.table.proofs.Loops.{after-none, after-turn, after-done, fill, fill-length, fill-at}
 use Rattle.table.proofs.load.card_bodies.Statement.{statement}
 use Rattle.table.proofs.load.card_bodies.Tie as tie
@@ -35,7 +35,7 @@ returns c =
     let e = after-done (fill v) (replicate maxBodies noTickBody) (l .inv .1) (l .inv .0) (c .loop-test .left) in
     record {
       places = ap (λ t. length t) e ∙ fill-length v (replicate maxBodies noTickBody) (a .args .h .bodies) ∙ length-replicate maxBodies noTickBody;
-      each = λ i k. ap (λ t. getD t i noTickBody) e ∙ fill-at v (replicate maxBodies noTickBody) noTickBody i (a .args .h .bodies) k (rw (length-replicate maxBodies noTickBody) (a .pre .few-bodies));
+      each = λ i k at. ap (λ b. standing b at) (ap (λ t. getD t i noTickBody) e ∙ fill-at v (replicate maxBodies noTickBody) noTickBody i (a .args .h .bodies) k (rw (length-replicate maxBodies noTickBody) (a .pre .few-bodies)));
     }
 
 pub card-bodies-spec : {M : Type 1} → statement M

@@ -2,7 +2,7 @@
 use Prim.Native.Nat.{ℕ, _-_, _≤_, _<_}
 use native.Mathlib.Omega.{arith}
 use mathlib.Core.Path.{_≡_, refl, sym, ap, _∙_}
-use mathlib.Core.Bool.{true, false}
+use mathlib.Core.Bool.{false}
 use mathlib.Core.List.{List}
 use lib.ListN.{length, getD, length-set, replicate, length-replicate}
 use lib.Ieee.{Float}
@@ -22,7 +22,7 @@ use Rattle.table.specs.Tick.{Solved, noJoint, storeTotals, loadNext, loa
 use Rattle.table.specs.Run.{tickOf}
 use Rattle.table.specs.Parts.{SoundCard, SoundState, tickBodyAt, CardBodies, CardJoints, finishedAt, storeMoving, Ready, ticksOf}
 use Rattle.table.proofs.Loops.{after-none, after-turn, after-done, fill}
-use Rattle.table.proofs.Turns.{unreadTickBody, unreadState, stand-turn, stands, load-turn, loaded-done, loaded-length, ends, warm-turn, warm-skip, warm-length, integrate-turn, pre-length, live, solve-more, solve-stop, solve-done}
+use Rattle.table.proofs.Turns.{unreadTickBody, unreadState, stand-turn, stands, still-held, load-turn, loaded-done, loaded-length, ends, warm-turn, warm-skip, warm-length, integrate-turn, pre-length, live, solve-more, solve-stop, solve-done}
 use Rattle.table.proofs.Ends.{finish-is, new-each, write-is, totals-turn}
 use Rattle.table.proofs.Ticking.{accepted-stopped, accepted-fault, accepted-stored, store-is, all-stored, sound, length-passed, state-refused-tick, accepted-tick, ticks-none, ticks-more, ticks-stop, ticks-done}
 use Rattle.table.proofs.run.run_checked.Statement.{statement}
@@ -31,60 +31,60 @@ use Rattle.table.proofs.run.run_checked.Tie as tie
 -- ---- the bodies
 
 abbrev Inv-loop2 : tie.InvT-loop2
-Inv-loop2 card state ticks h count joints card-bodies held done table₀ bodies₀ k₀ table bodies k =
+Inv-loop2 card state ticks h count joints table₀ held done bodies₀ k₀ table bodies k =
     (k ≤ count) × (table ≡ after (fill (tickBodyAt card state)) table₀ k) × (bodies ≡ after (loadNext card state) (replicate maxBodies dummyBody) k)
     × SoundCard card h × SoundState h state × CardBodies card h table₀ × CardJoints card h held
 
 abbrev μ-loop2 : tie.MeasureT-loop2
-μ-loop2 card state ticks h count joints card-bodies held done table₀ bodies₀ k₀ table bodies k = count - k
+μ-loop2 card state ticks h count joints table₀ held done bodies₀ k₀ table bodies k = count - k
 
 -- ---- the joints' warm start
 
 abbrev Inv-loop3 : tie.InvT-loop3
-Inv-loop3 card state ticks h count joints card-bodies held done table bodies₀ k j₀ bodies j =
+Inv-loop3 card state ticks h count joints table held done bodies₀ k j₀ bodies j =
     (j ≤ joints) × (length bodies ≡ maxBodies) × (bodies ≡ after (warmStartNext card h state) (loaded card h state) j)
     × Ready card h state table × CardJoints card h held
 
 abbrev μ-loop3 : tie.MeasureT-loop3
-μ-loop3 card state ticks h count joints card-bodies held done table bodies₀ k j₀ bodies j = joints - j
+μ-loop3 card state ticks h count joints table held done bodies₀ k j₀ bodies j = joints - j
 
 -- ---- gravity, locks and deltas
 
 abbrev Inv-loop4 : tie.InvT-loop4
-Inv-loop4 card state ticks h count joints card-bodies held done table bodies₀ k j dt i₀ bodies i =
+Inv-loop4 card state ticks h count joints table held done bodies₀ k j dt i₀ bodies i =
     (i ≤ count) × (length bodies ≡ maxBodies) × (bodies ≡ after (integrateNext card h state) (warmStarted card h state) i)
     × Ready card h state table × CardJoints card h held × (dt ≡ dtOf h)
 
 abbrev μ-loop4 : tie.MeasureT-loop4
-μ-loop4 card state ticks h count joints card-bodies held done table bodies₀ k j dt i₀ bodies i = count - i
+μ-loop4 card state ticks h count joints table held done bodies₀ k j dt i₀ bodies i = count - i
 
 -- ---- the joints' solve
 
 abbrev Inv-loop5 : tie.InvT-loop5
-Inv-loop5 card state ticks h count joints card-bodies held done table bodies₀ k j₀ dt i pre-solve totals₀ bodies j totals =
+Inv-loop5 card state ticks h count joints table held done bodies₀ k j₀ dt i pre-solve totals₀ bodies j totals =
     (j ≤ joints) × (length bodies ≡ maxBodies) × (live bodies totals ≡ before card h state j)
     × Ready card h state table × CardJoints card h held × (dt ≡ dtOf h) × (pre-solve ≡ preSolve card h state)
     × (length totals ≡ maxJoints)
 
 abbrev μ-loop5 : tie.MeasureT-loop5
-μ-loop5 card state ticks h count joints card-bodies held done table bodies₀ k j₀ dt i pre-solve totals₀ bodies j totals = joints - j
+μ-loop5 card state ticks h count joints table held done bodies₀ k j₀ dt i pre-solve totals₀ bodies j totals = joints - j
 
 -- ---- the new numbers
 
 abbrev Inv-loop6 : tie.InvT-loop6
-Inv-loop6 card state ticks h count joints card-bodies held done table bodies k j dt i₀ pre-solve totals new₀ i new =
+Inv-loop6 card state ticks h count joints table held done bodies k j dt i₀ pre-solve totals new₀ i new =
     let made = finishedAt table pre-solve bodies dt in
     (i ≤ count) × (anyTo (λ m. bodyFault (made m)) i ≡ false) × (new ≡ after (fill made) (replicate maxBodies restingBody) i)
     × Ready card h state table × (dt ≡ dtOf h) × (pre-solve ≡ preSolve card h state) × (live bodies totals ≡ before card h state (h .joints))
     × (length bodies ≡ maxBodies) × (length totals ≡ maxJoints) × (length new ≡ maxBodies)
 
 abbrev μ-loop6 : tie.MeasureT-loop6
-μ-loop6 card state ticks h count joints card-bodies held done table bodies k j dt i₀ pre-solve totals new₀ i new = count - i
+μ-loop6 card state ticks h count joints table held done bodies k j dt i₀ pre-solve totals new₀ i new = count - i
 
 -- ---- the state
 
 abbrev Inv-loop7 : tie.InvT-loop7
-Inv-loop7 card state₀ ticks h count joints card-bodies held done table k j dt i₀ totals new state i =
+Inv-loop7 card state₀ ticks h count joints table held done k j dt i₀ totals new state i =
     let σ = before card h state₀ (h .joints) in
     (i ≤ count) × (length state ≡ length state₀) × (state ≡ after (storeBody card h state₀ σ) state₀ i)
     × ((m : ℕ) → m < h .bodies → (t : List Float) → storeMoving (getD table m unreadTickBody) (getD new m unreadState) m t ≡ storeBody card h state₀ σ m t)
@@ -92,26 +92,26 @@ Inv-loop7 card state₀ ticks h count joints card-bodies held done table k j dt 
     × (totals ≡ σ .totals) × (length totals ≡ maxJoints)
 
 abbrev μ-loop7 : tie.MeasureT-loop7
-μ-loop7 card state₀ ticks h count joints card-bodies held done table k j dt i₀ totals new state i = count - i
+μ-loop7 card state₀ ticks h count joints table held done k j dt i₀ totals new state i = count - i
 
 -- here `state₀` has the bodies
 abbrev Inv-loop8 : tie.InvT-loop8
-Inv-loop8 card state₀ ticks h count joints card-bodies held done k j₀ dt i totals state j =
+Inv-loop8 card state₀ ticks h count joints table held done k j₀ dt i totals state j =
     (j ≤ joints) × (length state ≡ length state₀) × (state ≡ after (storeTotals (h .bodies) totals) state₀ j)
     × SoundCard card h × SoundState h state₀ × (length totals ≡ maxJoints)
 
 abbrev μ-loop8 : tie.MeasureT-loop8
-μ-loop8 card state₀ ticks h count joints card-bodies held done k j₀ dt i totals state j = joints - j
+μ-loop8 card state₀ ticks h count joints table held done k j₀ dt i totals state j = joints - j
 
 -- ---- ticks
 
 abbrev Inv-loop : tie.InvT-loop
-Inv-loop card state₀ ticks h count joints card-bodies held done₀ state done =
+Inv-loop card state₀ ticks h count joints table₀ held done₀ state table done =
     (done ≤ ticks) × (length state ≡ length state₀) × (answered 0 state ≡ ticksOf card state₀ done)
-    × (checkOf card ≡ 0) × (h ≡ headerAt card) × CardBodies card h card-bodies × CardJoints card h held × (ticks < 4294967296)
+    × (checkOf card ≡ 0) × (h ≡ headerAt card) × CardBodies card h table × CardJoints card h held × (ticks < 4294967296)
 
 abbrev μ-loop : tie.MeasureT-loop
-μ-loop card state₀ ticks h count joints card-bodies held done₀ state done = ticks - done
+μ-loop card state₀ ticks h count joints table₀ held done₀ state table done = ticks - done
 
 -- ---- the turns
 
@@ -388,7 +388,7 @@ loop-again c =
       ticks-more _ _ _ (o .2) (made ∙ ticked e) refl,
       o .3,
       o .4,
-      o .5,
+      still-held _ _ _ (c .before .before .before .before .before .loop6 .inv .3 .stands),
       o .6,
       o .7,
     )
