@@ -1,52 +1,69 @@
--- The new numbers of the bodies, from the arrays.
-use Prim.Native.Nat.{ℕ, _+_, _≤_, _<_}
-use mathlib.Core.Path.{_≡_, ap, _∙_}
+-- The new numbers of the bodies, and what is written of them and of the totals.
+use Prim.Native.Nat.{ℕ, _+_, _*_, _<_}
+use mathlib.Core.Path.{_≡_, refl, ap, _∙_}
+use mathlib.Core.Bool.{Bool, true, false, not}
 use mathlib.Core.List.{List, _++_}
-use lib.ListN.{length, getD, replicate, length-replicate}
+use lib.ListN.{length, getD, take}
 use lib.Seq.{sets}
 use lib.Ieee.{Float}
+use native.Mathlib.Omega.{arith}
+use Rattle.scalar.specs.Arith.{if_then_else_}
+use Rattle.joints.specs.declared.Joint.{Joint}
 use Rattle.solver_body.specs.Body.{dummyBody}
+use Rattle.solver_body.specs.declared.RigidBody.{RigidBody}
 use Rattle.solver_body.specs.declared.SolverBody.{SolverBody}
-use Rattle.tick.specs.Body.{restingBody}
+use Rattle.tick.specs.Body.{restingBody, finishedBody}
 use Rattle.tick.specs.Joint.{noTotals}
 use Rattle.tick.specs.declared.body.BodyState.{BodyState}
 use Rattle.tick.specs.declared.joint.JointTotals.{JointTotals}
-use Rattle.card.specs.Layout.{maxBodies, maxJoints}
+use Rattle.card.specs.Layout.{maxBodies, maxJoints, bodyNumbers}
+use Rattle.card.specs.Records.{dtOf}
+use Rattle.card.specs.declared.records.Header.{Header}
 use Rattle.card_records.specs.State.{numbers3}
 use Rattle.card_records.proofs.Writes.{sets-append}
-use Rattle.table.specs.Loop.{after}
-use Rattle.table.specs.Tick.{totalsPlace, totalsNumbers, storeTotals}
-use Rattle.table.specs.Parts.{noTickBody, finishedOr, finishedAt, storeMoving, storeNew}
+use Rattle.table.specs.Tick.{bodyStateNumbers, totalsPlace, totalsNumbers, storeTotals, anchoredAt, rigidAt, preSolve, before, newBody, storeBody}
+use Rattle.table.specs.Parts.{rigidIn, finishedOr, storeMoving}
 use Rattle.table.specs.declared.load.TickBody.{TickBody}
-use Rattle.table.proofs.Loops.{getD-in, after-done, fill, fill-at}
-use Rattle.table.proofs.Turns.{unreadBody, unreadTickBody, unreadState, unreadTotals}
+use Rattle.table.proofs.Loops.{getD-in, take-getD}
+use Rattle.table.proofs.Turns.{unreadBody, unreadTickBody, unreadState, unreadTotals, Decoded, Running, valid-is, rigid-is}
 
-module _ (table : List TickBody) (pre bodies : List SolverBody) (dt : Float) where
-  -- what the loop works out, by the machine's reads
-  pub finish-is : (i : ℕ) → i < maxBodies → length table ≡ maxBodies → length pre ≡ maxBodies → length bodies ≡ maxBodies
-      → finishedOr (getD table i unreadTickBody) (getD pre i unreadBody) (getD bodies i unreadBody) dt ≡ finishedAt table pre bodies dt i
-  unfolding finishedAt
-  finish-is i h e₁ e₂ e₃ =
-      rw (
-        getD-in table i unreadTickBody noTickBody (rw e₁ h),
-        getD-in pre i unreadBody dummyBody (rw e₂ h),
-        getD-in bodies i unreadBody dummyBody (rw e₃ h),
-      )
+finish-as : (a : Bool) (b : BodyState) → (if not a then b else restingBody) ≡ (if a then restingBody else b)
+finish-as true b = refl
+finish-as false b = refl
 
--- what the loop has worked out, at its end
-pub new-each : (new : ℕ → BodyState) (n : ℕ) → n ≤ maxBodies → {i : ℕ} {l : List BodyState} → l ≡ after (fill new) (replicate maxBodies restingBody) i → i ≤ n → n ≤ i
-    → (m : ℕ) → m < n → getD l m restingBody ≡ new m
-new-each new n few e a b m k =
-    ap (λ t. getD t m restingBody) (after-done (fill new) (replicate maxBodies restingBody) e a b)
-    ∙ fill-at new (replicate maxBodies restingBody) restingBody m n k (rw (length-replicate maxBodies restingBody) few)
+store-as : (a : Bool) (b : BodyState) (i : ℕ) (t : List Float)
+    → (if not a then sets t (bodyNumbers * i) (bodyStateNumbers (if a then restingBody else b)) else t) ≡ (if a then t else sets t (bodyNumbers * i) (bodyStateNumbers b))
+store-as true b i t = refl
+store-as false b i t = refl
 
--- ---- the writes
+module _ (card : List ℕ) (h : Header) (s : List Float) where
+  -- body i's new numbers; an anchored one's are not written
+  abbrev pub made : ℕ → BodyState
+  made i = if anchoredAt card i then restingBody else newBody card h s (before card h s (h .joints)) i
 
--- what the loop writes, by the machine's reads
-pub write-is : (table : List TickBody) (new : List BodyState) (i : ℕ) → i < maxBodies → length table ≡ maxBodies → length new ≡ maxBodies
-    → (s : List Float) → storeMoving (getD table i unreadTickBody) (getD new i unreadState) i s ≡ storeNew table new i s
-write-is table new i h e₁ e₂ s =
-    rw (getD-in table i unreadTickBody noTickBody (rw e₁ h), getD-in new i unreadState restingBody (rw e₂ h))
+  module _ {table : List TickBody} {held : List Joint} (D : Decoded card h table held) (i : ℕ) (k : i < h .bodies) where
+    abbrev at : TickBody
+    at = getD table i unreadTickBody
+
+    pub finish-is : {bodies : List SolverBody} (pre : List SolverBody) {totals : List JointTotals} → Running card h s (h .joints) bodies totals → length bodies ≡ maxBodies
+        → take (h .bodies) pre ≡ take (h .bodies) (preSolve card h s) → length pre ≡ maxBodies → {dt : Float} → dt ≡ dtOf h
+        → {r : RigidBody} → r ≡ rigidIn s i (at .«center_of_mass») → {b : BodyState} → b ≡ finishedOr (at .index) r (getD pre i unreadBody) (getD bodies i unreadBody) dt
+        → b ≡ made i
+    unfolding finishedOr newBody
+    finish-is {bodies} pre R lb ep lp ed er eb =
+        let σ = before card h s (h .joints) in
+        let short : i < maxBodies = omega (arith, k, D .sound .few-bodies) in
+        let b₁ = getD-in pre i unreadBody dummyBody (rw lp short) ∙ take-getD (h .bodies) pre (preSolve card h s) ep dummyBody i k in
+        let b₂ = getD-in bodies i unreadBody dummyBody (rw lb short) ∙ take-getD (h .bodies) bodies (σ .bodies) (R .bodies-as) dummyBody i k in
+        eb
+        ∙ rw (valid-is card h s D i k, b₁, b₂, ed, rigid-is card h s D i k er)
+        (finish-as (anchoredAt card i) (finishedBody (rigidAt card s i) (getD (preSolve card h s) i dummyBody) (getD (σ .bodies) i dummyBody) (dtOf h)))
+
+    pub write-is : (new : List BodyState) → getD new i unreadState ≡ made i → (t : List Float)
+        → storeMoving (at .index) (getD new i unreadState) i t ≡ storeBody card h s (before card h s (h .joints)) i t
+    write-is new e t = rw (valid-is card h s D i k, e) (store-as (anchoredAt card i) (newBody card h s (before card h s (h .joints)) i) i t)
+
+-- ---- the totals
 
 -- a joint's four totals, one behind the other
 pub totals-written : (u : JointTotals) (s : List Float) (at : ℕ) {s₁ s₂ s₃ s₄ : List Float}

@@ -5,9 +5,9 @@ use native.Mathlib.Omega.{arith}
 use native.Mathlib.Decide.{le-ind}
 use mathlib.Core.Path.{_≡_, refl, sym, ap, _∙_}
 use mathlib.Core.Bool.{Bool}
-use mathlib.Core.List.{List, [], _∷_}
-use lib.ListN.{length, getD, set, length-set}
-use lib.Seq.{getD-set-same, getD-set-other}
+use mathlib.Core.List.{List, [], _∷_, _++_}
+use lib.ListN.{length, getD, set, take, length-set}
+use lib.Seq.{getD-set-same, getD-set-other, getD-take, take-set-lt, take-suc-set}
 use Rattle.card.specs.Loop.{anyTo}
 use Rattle.table.specs.Loop.{after}
 
@@ -27,6 +27,14 @@ module _ {S : Type 0} (f : ℕ → S → S) (s : S) where
   pub after-done : {i n : ℕ} {t : S} → t ≡ after f s i → i ≤ n → n ≤ i → t ≡ after f s n
   after-done {i} {n} {t} inv a b = let e : n ≡ i = omega arith in rw e inv
 
+  -- a turn from what looks alike: it is the loop's own state as far as π sees
+  pub after-alike : {R : Type 0} (π : S → R) {i : ℕ} {t v : S} → ((u : S) → π t ≡ π u → π (f i t) ≡ π (f i u)) → π t ≡ π (after f s i) → v ≡ f i t
+      → π v ≡ π (after f s (i + 1))
+  after-alike π {i} alike inv e = ap π e ∙ alike (after f s i) inv ∙ ap π (sym (after-more i))
+
+  pub alike-done : {R : Type 0} (π : S → R) {i n : ℕ} {r : R} → r ≡ π (after f s i) → i ≤ n → n ≤ i → r ≡ π (after f s n)
+  alike-done π {i} {n} inv a b = let e : n ≡ i = omega arith in rw e inv
+
   -- from a state that each step keeps, no later step changes anything
   pub after-kept : (i n : ℕ) → i ≤ n → ((m : ℕ) → f m (after f s i) ≡ after f s i) → after f s n ≡ after f s i
   unfolding after
@@ -42,6 +50,12 @@ pub any-same : (p q : ℕ → Bool) (n : ℕ) → ((i : ℕ) → i < n → p i �
 unfolding anyTo
 any-same p q zero e = refl
 any-same p q (suc n) e = rw (any-same p q n (λ i h. e i (omega arith)), e n (omega arith))
+
+-- loops whose steps are the same
+pub after-same : {S : Type 0} (f g : ℕ → S → S) (s : S) (n : ℕ) → ((i : ℕ) (t : S) → i < n → f i t ≡ g i t) → after f s n ≡ after g s n
+unfolding after
+after-same f g s zero e = refl
+after-same f g s (suc n) e = ap (f n) (after-same f g s n (λ i t h. e i t (omega arith))) ∙ e n (after g s n) (omega arith)
 
 module _ {A : Type 0} where
   -- within a list, what is read is no default
@@ -69,3 +83,27 @@ module _ {A : Type 0} where
     unfolding after
     fill-past d i zero h = refl
     fill-past d i (suc n) h = getD-set-other (after (fill v) l n) n i (v n) d (λ e. omega arith) ∙ fill-past d i n (omega arith)
+
+    -- at the loop's end each place that was reached has its value
+    pub filled : {i n : ℕ} {t : List A} → t ≡ after (fill v) l i → i ≤ n → n ≤ i → n ≤ length l → (d : A) (m : ℕ) → m < n → getD t m d ≡ v m
+    filled {i} {n} e a b few d m h = ap (λ t. getD t m d) (after-done (fill v) l e a b) ∙ fill-at d m n h few
+
+  -- one place more
+  pub take-turn : (l m : List A) (i : ℕ) (a : A) → i < length l → i < length m → take i l ≡ take i m → take (i + 1) (set l i a) ≡ take (i + 1) (set m i a)
+  take-turn l m i a h k e = rw add-one (take-suc-set l i a h ∙ ap (λ t. t ++ (a ∷ [])) e ∙ sym (take-suc-set m i a k))
+
+  -- a list that is filled, whatever it had
+  pub fill-take : (v : ℕ → A) (l m : List A) (n : ℕ) → n ≤ length l → n ≤ length m → take n (after (fill v) l n) ≡ take n (after (fill v) m n)
+  unfolding after
+  fill-take v l m zero h k = refl
+  fill-take v l m (suc n) h k =
+      rw (← add-one n)
+      (take-turn (after (fill v) l n) (after (fill v) m n) n (v n) (rw (fill-length v l n) (omega arith)) (rw (fill-length v m n) (omega arith))
+      (fill-take v l m n (omega arith) (omega arith)))
+
+  -- lists that begin alike
+  pub take-getD : (n : ℕ) (l m : List A) → take n l ≡ take n m → (d : A) (i : ℕ) → i < n → getD l i d ≡ getD m i d
+  take-getD n l m e d i h = sym (getD-take n l i d h) ∙ ap (λ t. getD t i d) e ∙ getD-take n m i d h
+
+  pub take-set : (n : ℕ) (l m : List A) → take n l ≡ take n m → (i : ℕ) (a : A) → i < n → take n (set l i a) ≡ take n (set m i a)
+  take-set n l m e i a h = take-set-lt n l i a h ∙ ap (λ t. set t i a) e ∙ sym (take-set-lt n m i a h)

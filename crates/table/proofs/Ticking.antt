@@ -1,38 +1,37 @@
 -- What a tick and a run answer at each of their returns.
-use Prim.Native.Nat.{ℕ, zero, suc, _+_, _*_, _≤_, _<_}
+use Prim.Native.Nat.{ℕ, zero, suc, _+_, _≤_, _<_}
 use native.Mathlib.Omega.{arith}
 use mathlib.Core.Path.{_≡_, refl, sym, ap, subst, _∙_}
 use mathlib.Core.Bool.{Bool, true, false, not, _&&_}
 use mathlib.Core.List.{List, [], _∷_}
-use lib.ListN.{length, getD}
+use lib.ListN.{length, take}
 use lib.Seq.{sets}
 use lib.Dec.{T, eqb, eqb→eq}
 use lib.Ieee.{Float, lt, ofBits}
 use borrow.Author.Tests.{eq-eqb, ne-eqb}
 use Rattle.scalar.specs.Arith.{if_then_else_}
 use Rattle.scalar.specs.Scalar.{isFinite}
-use Rattle.solver_body.specs.Body.{isValid}
-use Rattle.solver_body.specs.declared.SolverBody.{SolverBody}
 use Rattle.tick.specs.Finite.{finite3, finite4}
 use Rattle.tick.specs.Body.{restingBody, tooFar, bodyFault}
+use Rattle.tick.specs.Joint.{noTotals}
 use Rattle.tick.specs.declared.body.BodyState.{BodyState}
 use Rattle.tick.specs.declared.joint.JointTotals.{JointTotals}
-use Rattle.card.specs.Layout.{bodyNumbers, stateLength}
+use Rattle.card.specs.Layout.{stateLength}
 use Rattle.card.specs.Loop.{anyTo}
 use Rattle.card.proofs.Loops.{any-some}
-use Rattle.card.specs.Records.{headerAt, dtOf}
+use Rattle.card.specs.Records.{headerAt}
 use Rattle.card.specs.Checks.{Refusal, refuse, firstOf, checkOf}
 use Rattle.card.specs.Accepted.{Accepted}
 use Rattle.card.specs.declared.records.Header.{Header}
 use Rattle.card_records.specs.State.{numberFault, stateFault, orElse, checkStateOf, Answered, answered}
 use Rattle.card_records.proofs.Starting.{state-refused, state-accepted}
 use Rattle.table.specs.Loop.{after}
-use Rattle.table.specs.Tick.{Solved, bodyStateNumbers, storeTotals, anchoredAt, rigidAt, preSolve, before, newBody, newFault, storeBody, stored, finished, tickAccepted}
+use Rattle.table.specs.Tick.{Solved, totalsPlace, totalsNumbers, storeTotals, anchoredAt, before, newBody, newFault, storeBody, stored, finished, tickAccepted}
 use Rattle.table.specs.Run.{tickOf, tickNext, runOf}
-use Rattle.table.specs.Parts.{SoundCard, SoundState, cardBodyAt, standing, tickBodyAt, noTickBody, TickBodies, finishedOr, finishedAt, storeNew, ticksOf}
-use Rattle.table.specs.declared.load.TickBody.{TickBody}
-use Rattle.table.proofs.Loops.{after-none, after-more, after-done, after-kept, any-same}
-use Rattle.table.proofs.Turns.{valid-as}
+use Rattle.table.specs.Parts.{ticksOf}
+use Rattle.table.proofs.Loops.{after-none, after-more, after-done, after-kept, after-same, any-same, take-getD}
+use Rattle.table.proofs.Turns.{SoundCard}
+use Rattle.table.proofs.Ends.{made}
 
 -- ---- the new numbers
 
@@ -40,14 +39,9 @@ resting-fine : bodyFault restingBody ≡ false
 unfolding bodyFault finite3 finite4 isFinite tooFar lt ofBits
 resting-fine = refl
 
-fault-as : (a : Bool) (b : BodyState) → bodyFault (if not a then b else restingBody) ≡ (not a && bodyFault b)
+fault-as : (a : Bool) (b : BodyState) → bodyFault (if a then restingBody else b) ≡ (not a && bodyFault b)
 fault-as true b = resting-fine
 fault-as false b = refl
-
-store-as : (a : Bool) (b : BodyState) (i : ℕ) (t : List Float)
-    → (if not a then sets t (bodyNumbers * i) (bodyStateNumbers (if not a then b else restingBody)) else t) ≡ (if a then t else sets t (bodyNumbers * i) (bodyStateNumbers b))
-store-as true b i t = refl
-store-as false b i t = refl
 
 at-fault : (u v : Bool) (a b : Answered) → u ≡ false → v ≡ true → (if u then a else if v then a else b) ≡ a
 at-fault u v a b e f = rw (e, f)
@@ -55,71 +49,38 @@ at-fault u v a b e f = rw (e, f)
 at-end : (u v : Bool) (a b : Answered) → u ≡ false → v ≡ false → (if u then a else if v then a else b) ≡ b
 at-end u v a b e f = rw (e, f)
 
-module _ (card : List ℕ) (h : Header) (s : List Float) (S : SoundCard card h) {table : List TickBody} (B : TickBodies card s (h .bodies) table)
-    {pre : List SolverBody} (ep : pre ≡ preSolve card h s) {σ : Solved} (eσ : σ ≡ before card h s (h .joints)) where
-  abbrev new : ℕ → BodyState
-  new i = finishedAt table pre (σ .bodies) (dtOf h) i
-
-  valid-is : (i : ℕ) → i < h .bodies → isValid (getD table i noTickBody .index) ≡ not (anchoredAt card i)
-  unfolding tickBodyAt standing cardBodyAt
-  valid-is i k = rw (B .each i k) (valid-as (anchoredAt card i) i (omega (arith, k, S .few-bodies)))
-
-  rigid-is : (i : ℕ) → i < h .bodies → getD table i noTickBody .rigid ≡ rigidAt card s i
-  unfolding tickBodyAt standing cardBodyAt rigidAt
-  rigid-is i k = rw (B .each i k)
-
-  new-is : (i : ℕ) → i < h .bodies → new i ≡ (if not (anchoredAt card i) then newBody card h s σ i else restingBody)
-  unfolding finishedAt finishedOr newBody
-  new-is i k = rw (valid-is i k, rigid-is i k, ep)
-
-  fault-is : (i : ℕ) → i < h .bodies → bodyFault (new i) ≡ newFault card h s σ i
-  unfolding newFault
-  fault-is i k = ap bodyFault (new-is i k) ∙ fault-as (anchoredAt card i) (newBody card h s σ i)
-
-  solved : finished card h s σ ≡ tickAccepted card h s
-  unfolding tickAccepted
-  solved = ap (λ τ. finished card h s τ) eσ
+module _ (card : List ℕ) (h : Header) (s : List Float) where
+  abbrev σ : Solved
+  σ = before card h s (h .joints)
 
   pub accepted-stopped : σ .stopped ≡ true → answered 13 s ≡ tickAccepted card h s
-  unfolding finished
-  accepted-stopped e = rw (← solved, e)
+  unfolding tickAccepted finished
+  accepted-stopped e = rw e
+
+  faults : anyTo (λ i. bodyFault (made card h s i)) (h .bodies) ≡ anyTo (newFault card h s σ) (h .bodies)
+  unfolding newFault
+  faults = any-same (λ i. bodyFault (made card h s i)) (newFault card h s σ) (h .bodies) (λ i k. fault-as (anchoredAt card i) (newBody card h s σ i))
 
   module _ (go : σ .stopped ≡ false) where
-    faults : anyTo (λ i. bodyFault (new i)) (h .bodies) ≡ anyTo (newFault card h s σ) (h .bodies)
-    faults = any-same (λ i. bodyFault (new i)) (newFault card h s σ) (h .bodies) fault-is
-
-    pub accepted-fault : (i : ℕ) → i < h .bodies → bodyFault (new i) ≡ true → answered 13 s ≡ tickAccepted card h s
-    unfolding finished
+    pub accepted-fault : (i : ℕ) → i < h .bodies → bodyFault (made card h s i) ≡ true → answered 13 s ≡ tickAccepted card h s
+    unfolding tickAccepted finished
     accepted-fault i k e =
-        let some = any-some (λ m. bodyFault (new m)) i (h .bodies) k e in
-        sym (at-fault (σ .stopped) (anyTo (newFault card h s σ) (h .bodies)) _ _ go (sym faults ∙ some)) ∙ solved
+        let some = any-some (λ m. bodyFault (made card h s m)) i (h .bodies) k e in
+        sym (at-fault (σ .stopped) (anyTo (newFault card h s σ) (h .bodies)) _ _ go (sym faults ∙ some))
 
-    module _ (fine : anyTo (λ i. bodyFault (new i)) (h .bodies) ≡ false) where
-      pub accepted-stored : answered 0 (stored card h s (before card h s (h .joints))) ≡ tickAccepted card h s
-      unfolding finished
-      accepted-stored =
-          ap (λ τ. answered 0 (stored card h s τ)) (sym eσ)
-          ∙ sym (at-end (σ .stopped) (anyTo (newFault card h s σ) (h .bodies)) _ _ go (sym faults ∙ fine))
-          ∙ solved
+    pub accepted-stored : anyTo (λ i. bodyFault (made card h s i)) (h .bodies) ≡ false → answered 0 (stored card h s σ) ≡ tickAccepted card h s
+    unfolding tickAccepted finished
+    accepted-stored fine = sym (at-end (σ .stopped) (anyTo (newFault card h s σ) (h .bodies)) _ _ go (sym faults ∙ fine))
 
-  pub store-is : (r : List BodyState) → ((i : ℕ) → i < h .bodies → getD r i restingBody ≡ new i)
-      → (i : ℕ) → i < h .bodies → (t : List Float) → storeNew table r i t ≡ storeBody card h s (before card h s (h .joints)) i t
-  store-is r each i k t =
-      rw (valid-is i k, each i k, new-is i k) (store-as (anchoredAt card i) (newBody card h s σ i) i t)
-      ∙ ap (λ τ. storeBody card h s τ i t) eσ
-
--- the bodies written, then the totals
-pub all-stored : (card : List ℕ) (h : Header) (s : List Float) {totals : List JointTotals} {s₁ s₂ : List Float} {j : ℕ}
-    → let σ = before card h s (h .joints) in totals ≡ σ .totals → s₁ ≡ after (storeBody card h s σ) s (h .bodies) → s₂ ≡ after (storeTotals (h .bodies) totals) s₁ j
-    → j ≤ h .joints → h .joints ≤ j → answered 0 (stored card h s σ) ≡ tickAccepted card h s → answered 0 s₂ ≡ tickAccepted card h s
-unfolding stored
-all-stored card h s {totals} et e₁ e₂ a b is =
-    let bodies = after (storeBody card h s (before card h s (h .joints))) s (h .bodies) in
-    ap (λ t. answered 0 t)
-    (after-done _ _ e₂ a b
-    ∙ ap (λ t. after (storeTotals (h .bodies) totals) t (h .joints)) e₁
-    ∙ ap (λ u. after (storeTotals (h .bodies) u) bodies (h .joints)) et)
-    ∙ is
+  -- the bodies written, then the totals
+  pub all-stored : (totals : List JointTotals) → take (h .joints) totals ≡ take (h .joints) (σ .totals) → {s₁ s₂ : List Float} {j : ℕ}
+      → s₁ ≡ after (storeBody card h s σ) s (h .bodies) → s₂ ≡ after (storeTotals (h .bodies) totals) s₁ j → j ≤ h .joints → h .joints ≤ j → s₂ ≡ stored card h s σ
+  unfolding stored
+  all-stored totals et e₁ e₂ a b =
+      after-done _ _ e₂ a b
+      ∙ ap (λ t. after (storeTotals (h .bodies) totals) t (h .joints)) e₁
+      ∙ after-same (storeTotals (h .bodies) totals) (storeTotals (h .bodies) (σ .totals)) (after (storeBody card h s σ) s (h .bodies)) (h .joints)
+      (λ j t k. ap (λ u. sets t (totalsPlace (h .bodies) j) (totalsNumbers u)) (take-getD (h .joints) totals (σ .totals) et noTotals j k))
 
 -- ---- the checks
 
@@ -138,7 +99,7 @@ first-passed : (a : Bool) (checks : List Refusal) → firstOf (refuse 11 (not a)
 first-passed true checks e = refl
 first-passed false checks e = absurd (omega (arith, e))
 
-pub length-passed : (h : Header) (s : List Float) → stateFault (h .bodies) (h .joints) s ≡ 0 → SoundState h s
+pub length-passed : (h : Header) (s : List Float) → stateFault (h .bodies) (h .joints) s ≡ 0 → length s ≡ stateLength (h .bodies) (h .joints)
 unfolding stateFault
 length-passed h s e =
     let whole = eqb (length s) (stateLength (h .bodies) (h .joints)) in

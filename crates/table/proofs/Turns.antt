@@ -1,10 +1,10 @@
--- A turn of each loop makes the definition's next step.
+-- A turn of each loop makes the definition's next step. Of the array of the solver's bodies only the places of the card's bodies count (`take`).
 use Prim.Native.Nat.{ℕ, zero, suc, _+_, _≤_, _<_}
 use native.Mathlib.Omega.{arith}
 use mathlib.Core.Path.{_≡_, refl, sym, ap, _∙_}
 use mathlib.Core.Bool.{Bool, true, false, not}
 use mathlib.Core.List.{List}
-use lib.ListN.{length, getD, set, replicate, length-set, length-replicate}
+use lib.ListN.{length, getD, set, take, replicate, length-set, length-replicate, getD-replicate}
 use lib.Seq.{set-getD}
 use lib.IntN.{pos}
 use lib.Ieee.{Float, nan}
@@ -23,23 +23,23 @@ use Rattle.xpbd_joints.specs.Revolute.{revoluteWarmStarted}
 use Rattle.xpbd_joints.specs.Prismatic.{prismaticWarmStarted}
 use Rattle.xpbd_plugin.specs.Joint.{jointPrepared, jointWarmStarted}
 use Rattle.tick.specs.Body.{solverBodyOf, integrated}
-use Rattle.tick.specs.Joint.{noTotals}
+use Rattle.tick.specs.Joint.{noTotals, jointFinite}
 use Rattle.tick.specs.Parts.{resultOf}
 use Rattle.tick.specs.declared.body.BodyState.{BodyState}
 use Rattle.tick.proofs.WarmValue.{any-warm-value}
 use Rattle.tick.specs.declared.joint.JointTotals.{JointTotals}
 use Rattle.tick.specs.declared.joint.JointResult.{JointResult}
-use Rattle.card.specs.Layout.{maxBodies, maxJoints, jointFloats}
+use Rattle.card.specs.Layout.{maxBodies, maxJoints, maxRate, jointPlace, jointFloats, stateLength}
 use Rattle.card.specs.Records.{jointBits, dtOf}
 use Rattle.card.specs.declared.records.Header.{Header}
 use Rattle.card.specs.declared.records.JointBits.{JointBits}
 use Rattle.card_records.specs.Decode.{inertiaAt, angularMotorAt, linearMotorAt, revoluteAt, prismaticAt, joints, jointOf, jointAt}
 use Rattle.card_records.specs.declared.joint.CardJoint.the-variants.{Unknown}
 use Rattle.table.specs.Loop.{after}
-use Rattle.table.specs.Tick.{Solved, bodyStateAt, noJoint, anchoredAt, rigidAt, putMoving, loadNext, knownJoint, loaded, warmStarted, firstBody, secondBody, preparedAt, pairAt, putPair, warmStartedAt, warmStartNext, integrateNext, preSolve, solvedAt, stop, solveNext, before}
-use Rattle.table.specs.Parts.{SoundCard, indexOf, cardBodyAt, standing, tickBodyAt, noTickBody, CardBodies, TickBodies, moved, integratedOr, CardJoints, warmValueAt, warmStartedWith, solvedWith}
+use Rattle.table.specs.Tick.{Solved, bodyStateAt, totalsAt, anchoredAt, rigidAt, putMoving, loadNext, knownJoint, loaded, warmStarted, firstBody, secondBody, inertiasAt, preparedAt, pairAt, putPair, warmStartedAt, warmStartNext, integrateNext, preSolve, solvedAt, putSolved, stop, solveNext, before}
+use Rattle.table.specs.Parts.{indexOf, cardBodyAt, rigidIn, moved, integratedOr, warmStartedWith, solvedWith}
 use Rattle.table.specs.declared.load.TickBody.{TickBody}
-use Rattle.table.proofs.Loops.{after-turn, after-done, after-kept, after-all, getD-in, fill, fill-length, fill-at, fill-past}
+use Rattle.table.proofs.Loops.{after-none, after-more, after-alike, alike-done, after-done, after-kept, getD-in, fill, fill-past, fill-take, take-getD, take-set, take-turn}
 
 -- ---- what a read past an array's end would give
 
@@ -62,7 +62,7 @@ abbrev pub unreadTickBody : TickBody
 unreadTickBody =
     record {
       index = record { 0 = 0 };
-      rigid = record { position = unread3; rotation = unread4; «center_of_mass» = unread3 };
+      «center_of_mass» = unread3;
       inertia =
           record {
             «inv_mass» = nan;
@@ -87,112 +87,89 @@ unfolding moved
 put-as true i h bodies d b = rw (valid-as true i h) (set-getD bodies i d)
 put-as false i h bodies d b = rw (valid-as false i h)
 
--- ---- the bodies where the state has them
+-- ---- what stands before a tick
 
-module _ (card : List ℕ) (h : Header) (s : List Float) (few : h .bodies ≤ maxBodies) (bodies : List TickBody) (B : CardBodies card h bodies) where
-  abbrev pub stood : ℕ → List TickBody
-  stood i = after (fill (tickBodyAt card s)) bodies i
+-- what no check refuses has this
+pub record SoundCard (card : List ℕ) (h : Header) : Type 0 where
+  pub few-bodies : h .bodies ≤ maxBodies
+  pub few-joints : h .joints ≤ maxJoints
+  pub most-rate : h .rate ≤ maxRate
+  pub whole : length card ≡ jointPlace (h .bodies) (h .joints)
+  pub first : (j : ℕ) → j < h .joints → jointBits card (h .bodies) j .body1 < h .bodies
+  pub second : (j : ℕ) → j < h .joints → jointBits card (h .bodies) j .body2 < h .bodies
 
-  pub stand-turn : (i : ℕ) → i < h .bodies → {table : List TickBody} {a : BodyState} {t : TickBody} → table ≡ stood i
-      → a ≡ bodyStateAt s i → t ≡ standing (getD table i unreadTickBody) a → t ≡ tickBodyAt card s i
-  unfolding tickBodyAt
-  stand-turn i k et ea e =
-      let past = fill-past (tickBodyAt card s) bodies unreadTickBody i i (omega arith) in
-      let read = getD-in bodies i unreadTickBody noTickBody (rw (B .places) (omega arith)) in
-      rw (e, ea, et) (ap (λ b. standing b (bodyStateAt s i)) (past ∙ read) ∙ B .each i k (bodyStateAt s i))
+abbrev pub decodedJoint : List ℕ → Header → ℕ → Joint
+decodedJoint card h j = knownJoint (jointAt card (h .bodies) j)
 
-  pub stands : {i : ℕ} {table : List TickBody} → table ≡ stood i → i ≤ h .bodies → h .bodies ≤ i → TickBodies card s (h .bodies) table
-  stands {i} {table} et a b =
-      let e : h .bodies ≡ i = omega arith in
-      let f : table ≡ stood (h .bodies) = rw e et in
-      record {
-        places = ap (λ t. length t) f ∙ fill-length (tickBodyAt card s) bodies (h .bodies) ∙ B .places;
-        each = λ m k. ap (λ t. getD t m noTickBody) f ∙ fill-at (tickBodyAt card s) bodies noTickBody m (h .bodies) k (rw (B .places) few);
-      }
+-- the card's bodies and joints, each in its place
+pub record Decoded (card : List ℕ) (h : Header) (table : List TickBody) (joints : List Joint) : Type 0 where
+  pub sound : SoundCard card h
+  pub body : (d : TickBody) (i : ℕ) → i < h .bodies → getD table i d ≡ cardBodyAt card i
+  pub joint : (d : Joint) (j : ℕ) → j < h .joints → getD joints j d ≡ decodedJoint card h j
 
--- they are still the card's
-pub still-held : (card : List ℕ) (h : Header) (s : List Float) {table : List TickBody} → TickBodies card s (h .bodies) table → CardBodies card h table
-unfolding tickBodyAt standing
-still-held card h s T = record { places = T .places; each = λ i k at. ap (λ b. standing b at) (T .each i k) }
+-- what the loops of a tick have before them
+pub record Ready (card : List ℕ) (h : Header) (s : List Float) (dt : Float) (table : List TickBody) (joints : List Joint) : Type 0 where
+  pub decoded : Decoded card h table joints
+  pub step : dt ≡ dtOf h
+  pub whole : length s ≡ stateLength (h .bodies) (h .joints)
 
-pub load-turn : (card : List ℕ) (s : List Float) (i : ℕ) → i < maxBodies → (bodies : List SolverBody) {t : TickBody} {b c : SolverBody} {a : BodyState}
-    → t ≡ tickBodyAt card s i → a ≡ bodyStateAt s i → c ≡ solverBodyOf a → b ≡ moved (t .index) (getD bodies i unreadBody) c → set bodies i b ≡ loadNext card s i bodies
-unfolding tickBodyAt standing cardBodyAt
-load-turn card s i k bodies et ea ec eb = rw (eb, ec, ea, et) (put-as (anchoredAt card i) i k bodies unreadBody (solverBodyOf (bodyStateAt s i)))
+-- ---- the solver's bodies
 
-module _ (card : List ℕ) (s : List Float) (n : ℕ) (few : n ≤ maxBodies) (table : List TickBody) (T : TickBodies card s n table) where
-  abbrev at : ℕ → TickBody
-  at i = getD table i unreadTickBody
+-- body i, as the load puts it
+abbrev pub loadedBody : List ℕ → List Float → ℕ → SolverBody
+loadedBody card s i = if anchoredAt card i then dummyBody else solverBodyOf (bodyStateAt s i)
 
-  -- what the array of bodies holds
-  held : (i : ℕ) → i < n → at i ≡ tickBodyAt card s i
-  held i h = getD-in table i unreadTickBody noTickBody (rw (T .places) (omega arith)) ∙ T .each i h
+load-as : (a : Bool) (i : ℕ) → i < maxBodies → (b : SolverBody) → moved (indexOf a i) dummyBody b ≡ (if a then dummyBody else b)
+unfolding moved
+load-as true i h b = rw (valid-as true i h)
+load-as false i h b = rw (valid-as false i h)
 
-  index-is : (i : ℕ) → i < n → at i .index ≡ indexOf (anchoredAt card i) i
-  unfolding tickBodyAt standing cardBodyAt
-  index-is i h = ap (λ (t : TickBody). t .index) (held i h)
+fill-as : (a : Bool) (i : ℕ) (l : List SolverBody) (b : SolverBody) → getD l i dummyBody ≡ dummyBody
+    → (if a then l else set l i b) ≡ set l i (if a then dummyBody else b)
+fill-as true i l b e = sym (ap (λ d. set l i d) (sym e) ∙ set-getD l i dummyBody)
+fill-as false i l b e = refl
 
-  put-is : (i : ℕ) → i < n → (bodies : List SolverBody) (b : SolverBody)
-      → set bodies i (moved (at i .index) (getD bodies i unreadBody) b) ≡ putMoving card i b bodies
-  put-is i h bodies b = rw (index-is i h) (put-as (anchoredAt card i) i (omega arith) bodies unreadBody b)
+-- the load fills the places of the card's bodies
+load-fills : (card : List ℕ) (s : List Float) (n : ℕ) → n ≤ maxBodies
+    → after (loadNext card s) (replicate maxBodies dummyBody) n ≡ after (fill (loadedBody card s)) (replicate maxBodies dummyBody) n
+unfolding after
+load-fills card s zero h = refl
+load-fills card s (suc n) h =
+    let blank = replicate maxBodies dummyBody in
+    ap (λ l. loadNext card s n l) (load-fills card s n (omega arith))
+    ∙ fill-as (anchoredAt card n) n (after (fill (loadedBody card s)) blank n) (solverBodyOf (bodyStateAt s n))
+    (fill-past (loadedBody card s) blank dummyBody n n (omega arith) ∙ getD-replicate maxBodies n dummyBody dummyBody (omega arith))
 
-  -- ---- gravity, locks and deltas
-
-  pub integrate-turn : (h : Header) (i : ℕ) → i < n → (bodies : List SolverBody) → length bodies ≡ maxBodies → {b : SolverBody} {dt : Float}
-      → dt ≡ dtOf h → b ≡ integratedOr (at i) (getD bodies i unreadBody) (h .gravity) dt → set bodies i b ≡ integrateNext card h s i bodies
-  unfolding integratedOr tickBodyAt standing cardBodyAt
-  integrate-turn h i k bodies lb ed eb =
-      let read = getD-in bodies i unreadBody dummyBody (rw lb (omega arith)) in
-      rw (eb, ed)
-      (put-is i k bodies (integrated (getD bodies i unreadBody) (at i .inertia) (h .gravity) (dtOf h))
-      ∙ rw (read, held i k))
-
--- ---- the array keeps its length
-
-moving-length : (a : Bool) (bodies : List SolverBody) (i : ℕ) (b : SolverBody) → length (if a then bodies else set bodies i b) ≡ length bodies
-moving-length true bodies i b = refl
-moving-length false bodies i b = length-set bodies i b
-
-pub loaded-done : (card : List ℕ) (h : Header) (s : List Float) → SoundCard card h → {i : ℕ} {bodies : List SolverBody}
-    → bodies ≡ after (loadNext card s) (replicate maxBodies dummyBody) i → i ≤ h .bodies → h .bodies ≤ i → bodies ≡ loaded card h s
+pub loaded-done : (card : List ℕ) (h : Header) (s : List Float) → h .bodies ≤ maxBodies → (l : List SolverBody) → length l ≡ maxBodies → {i : ℕ} {bodies : List SolverBody}
+    → bodies ≡ after (fill (loadedBody card s)) l i → i ≤ h .bodies → h .bodies ≤ i
+    → take (h .bodies) bodies ≡ take (h .bodies) (after (warmStartNext card h s) (loaded card h s) 0)
 unfolding loaded
-loaded-done card h s S e a b = after-done _ _ e a b
+loaded-done card h s few l el e a b =
+    let v = loadedBody card s in
+    let blank = replicate maxBodies dummyBody in
+    ap (λ t. take (h .bodies) t) (after-done (fill v) l e a b)
+    ∙ fill-take v l blank (h .bodies) (rw el few) (rw (length-replicate maxBodies dummyBody) few)
+    ∙ ap (λ t. take (h .bodies) t) (sym (load-fills card s (h .bodies) few) ∙ sym (after-none (warmStartNext card h s) (loaded card h s)))
 
-module _ (card : List ℕ) (h : Header) (s : List Float) where
-  pub loaded-length : length (loaded card h s) ≡ maxBodies
-  unfolding loaded
-  loaded-length =
-      after-all (loadNext card s) (replicate maxBodies dummyBody) (λ l. length l ≡ maxBodies) (h .bodies) (length-replicate maxBodies dummyBody)
-      (λ i l m e. moving-length (anchoredAt card i) l i (solverBodyOf (bodyStateAt s i)) ∙ e)
-
-  pub warm-length : length (warmStarted card h s) ≡ maxBodies
+module _ (card : List ℕ) (h : Header) (s : List Float) (bodies : List SolverBody) where
+  pub warm-done : {j : ℕ} → take (h .bodies) bodies ≡ take (h .bodies) (after (warmStartNext card h s) (loaded card h s) j) → j ≤ h .joints → h .joints ≤ j
+      → take (h .bodies) bodies ≡ take (h .bodies) (after (integrateNext card h s) (warmStarted card h s) 0)
   unfolding warmStarted
-  warm-length =
-      after-all (warmStartNext card h s) (loaded card h s) (λ l. length l ≡ maxBodies) (h .joints) loaded-length
-      (λ j l m e.
-      let f = firstBody card h s j in
-      let b = warmStartedAt card h s j l in
-      moving-length (anchoredAt card (secondBody card h s j)) (putMoving card f (b .body1) l) (secondBody card h s j) (b .body2)
-      ∙ moving-length (anchoredAt card f) l f (b .body1) ∙ e)
+  warm-done inv a b =
+      alike-done (warmStartNext card h s) (loaded card h s) (λ l. take (h .bodies) l) inv a b
+      ∙ ap (λ l. take (h .bodies) l) (sym (after-none (integrateNext card h s) (warmStarted card h s)))
 
-  pub pre-length : length (preSolve card h s) ≡ maxBodies
+  pub integrate-done : {i : ℕ} → take (h .bodies) bodies ≡ take (h .bodies) (after (integrateNext card h s) (warmStarted card h s) i) → i ≤ h .bodies → h .bodies ≤ i
+      → take (h .bodies) bodies ≡ take (h .bodies) (preSolve card h s)
   unfolding preSolve
-  pre-length =
-      after-all (integrateNext card h s) (warmStarted card h s) (λ l. length l ≡ maxBodies) (h .bodies) warm-length
-      (λ i l m e. moving-length (anchoredAt card i) l i (integrated (getD l i dummyBody) (inertiaAt card i) (h .gravity) (dtOf h)) ∙ e)
+  integrate-done inv a b = alike-done (integrateNext card h s) (warmStarted card h s) (λ l. take (h .bodies) l) inv a b
 
--- ---- joints
+put-alike : (n : ℕ) (a : Bool) (i : ℕ) → i < n → (b : SolverBody) (l m : List SolverBody) → take n l ≡ take n m
+    → take n (if a then l else set l i b) ≡ take n (if a then m else set m i b)
+put-alike n true i h b l m e = e
+put-alike n false i h b l m e = take-set n l m e i b h
 
--- a joint's bodies have their places
-pub ends : (card : List ℕ) (h : Header) → SoundCard card h → (j : ℕ) → j < h .joints → {b : JointBits} → b ≡ jointBits card (h .bodies) j
-    → (b .body1 < maxBodies) × (b .body2 < maxBodies)
-ends card h S j k e = rw e (omega (arith, S .first j k, S .second j k, S .few-bodies))
-
-abbrev pub live : List SolverBody → List JointTotals → Solved
-live bodies totals = record { stopped = false; bodies = bodies; totals = totals }
-
-pub solve-done : (card : List ℕ) (h : Header) (s : List Float) {j n : ℕ} {σ : Solved} → σ ≡ before card h s j → j ≤ n → n ≤ j → σ ≡ before card h s n
-solve-done card h s {j} {n} inv a b = let e : n ≡ j = omega arith in rw e inv
+-- ---- joints without a motor
 
 not-yes : (b : Bool) → not b ≡ true → b ≡ false
 not-yes true e = sym e
@@ -241,103 +218,241 @@ put-back card h s j bodies =
     ap (λ l. putMoving card (secondBody card h s j) (getD bodies (secondBody card h s j) dummyBody) l) (put-same (anchoredAt card (firstBody card h s j)) bodies (firstBody card h s j))
     ∙ put-same (anchoredAt card (secondBody card h s j)) bodies (secondBody card h s j)
 
--- what the array of joints holds, whatever a read past its end would give
-pub joint-held : (card : List ℕ) (h : Header) (joints : List Joint) → CardJoints card h joints → h .joints ≤ maxJoints
-    → (d : Joint) (j : ℕ) → j < h .joints → getD joints j d ≡ knownJoint (jointAt card (h .bodies) j)
-joint-held card h joints J few d j k = getD-in joints j d noJoint (rw (J .places) (omega arith)) ∙ J .each j k
+-- ---- a joint's bodies
 
-module _ (card : List ℕ) (h : Header) (s : List Float) (S : SoundCard card h) (table : List TickBody) (T : TickBodies card s (h .bodies) table)
-    (held-joints : List Joint) (J : CardJoints card h held-joints) (noRead : Joint) where
-  abbrev heldJoint : ℕ → Joint
-  heldJoint j = getD held-joints j noRead
+-- a joint's bodies have their places
+pub ends : (card : List ℕ) (h : Header) → SoundCard card h → (j : ℕ) → j < h .joints → {b : JointBits} → b ≡ jointBits card (h .bodies) j
+    → (b .body1 < h .bodies) × (b .body2 < h .bodies) × (h .bodies ≤ maxBodies)
+ends card h S j k e = rw e (S .first j k, S .second j k, S .few-bodies)
 
-  abbrev tickBody : ℕ → TickBody
-  tickBody i = getD table i unreadTickBody
+-- ---- the solve
 
-  abbrev pairOf : JointBits → List SolverBody → BodyPair
-  pairOf b bodies = record { body1 = getD bodies (b .body1) unreadBody; body2 = getD bodies (b .body2) unreadBody }
+-- what the loop has after the joints before j: none of them stopped it, and its arrays begin as the definition's
+pub record Running (card : List ℕ) (h : Header) (s : List Float) (j : ℕ) (bodies : List SolverBody) (totals : List JointTotals) : Type 0 where
+  pub going : before card h s j .stopped ≡ false
+  pub bodies-as : take (h .bodies) bodies ≡ take (h .bodies) (before card h s j .bodies)
+  pub totals-as : take j totals ≡ take j (before card h s j .totals)
+  pub places : length (before card h s j .totals) ≡ maxJoints
 
-  module _ (j : ℕ) (k : j < h .joints) (bodies : List SolverBody) (lb : length bodies ≡ maxBodies) where
+module _ (card : List ℕ) (h : Header) (s : List Float) where
+  abbrev unsolved : Solved
+  unsolved = record { stopped = false; bodies = preSolve card h s; totals = replicate maxJoints noTotals }
+
+  pub running-none : (bodies : List SolverBody) (totals : List JointTotals) → take (h .bodies) bodies ≡ take (h .bodies) (preSolve card h s)
+      → Running card h s 0 bodies totals
+  unfolding before
+  running-none bodies totals e =
+      let none = after-none (solveNext card h s) unsolved in
+      record {
+        going = ap (λ (σ : Solved). σ .stopped) none;
+        bodies-as = e ∙ ap (λ (σ : Solved). take (h .bodies) (σ .bodies)) (sym none);
+        totals-as = refl;
+        places = ap (λ (σ : Solved). length (σ .totals)) none ∙ length-replicate maxJoints noTotals;
+      }
+
+  pub running-done : {j n : ℕ} {bodies : List SolverBody} {totals : List JointTotals} → Running card h s j bodies totals → j ≤ n → n ≤ j → Running card h s n bodies totals
+  running-done {j} {n} R a b = let e : n ≡ j = omega arith in rw e R
+
+  next : (j : ℕ) → before card h s (j + 1) ≡ solveNext card h s j (before card h s j)
+  unfolding before
+  next j = after-more (solveNext card h s) unsolved j
+
+  next-solved : (j : ℕ) (σ : Solved) → σ .stopped ≡ false → jointFinite (solvedAt card h s j (σ .bodies)) ≡ true
+      → solveNext card h s j σ ≡ putSolved card h s j (solvedAt card h s j (σ .bodies)) σ
+  unfolding solveNext
+  next-solved j σ e f = rw (e, f)
+
+  next-stopped : (j : ℕ) (σ : Solved) → σ .stopped ≡ false → jointFinite (solvedAt card h s j (σ .bodies)) ≡ false → solveNext card h s j σ ≡ stop σ
+  unfolding solveNext
+  next-stopped j σ e f = rw (e, f)
+
+  next-kept : (j : ℕ) (σ : Solved) → σ .stopped ≡ true → solveNext card h s j σ ≡ σ
+  unfolding solveNext
+  next-kept j σ e = rw e
+
+  stays-stopped : (i n : ℕ) → i ≤ n → before card h s i .stopped ≡ true → before card h s n .stopped ≡ true
+  unfolding before
+  stays-stopped i n l e =
+      ap (λ (σ : Solved). σ .stopped) (after-kept (solveNext card h s) unsolved i n l (λ m. next-kept m (after (solveNext card h s) unsolved i) e)) ∙ e
+
+-- ---- the turns
+
+module _ (card : List ℕ) (h : Header) (s : List Float) {table : List TickBody} {held : List Joint} (D : Decoded card h table held) where
+  S : SoundCard card h
+  S = D .sound
+
+  abbrev at : ℕ → TickBody
+  at i = getD table i unreadTickBody
+
+  index-is : (i : ℕ) → i < h .bodies → at i .index ≡ indexOf (anchoredAt card i) i
+  unfolding cardBodyAt
+  index-is i k = ap (λ (t : TickBody). t .index) (D .body unreadTickBody i k)
+
+  pub valid-is : (i : ℕ) → i < h .bodies → isValid (at i .index) ≡ not (anchoredAt card i)
+  valid-is i k = rw (index-is i k) (valid-as (anchoredAt card i) i (omega (arith, k, S .few-bodies)))
+
+  pub rigid-is : (i : ℕ) → i < h .bodies → {r : RigidBody} → r ≡ rigidIn s i (at i .«center_of_mass») → r ≡ rigidAt card s i
+  unfolding rigidIn rigidAt cardBodyAt
+  rigid-is i k e = e ∙ rw (D .body unreadTickBody i k)
+
+  put-is : (i : ℕ) → i < h .bodies → (bodies : List SolverBody) (b : SolverBody)
+      → set bodies i (moved (at i .index) (getD bodies i unreadBody) b) ≡ putMoving card i b bodies
+  put-is i k bodies b = rw (index-is i k) (put-as (anchoredAt card i) i (omega (arith, k, S .few-bodies)) bodies unreadBody b)
+
+  pub load-turn : (i : ℕ) → i < h .bodies → {a : BodyState} {b c : SolverBody} → a ≡ bodyStateAt s i → c ≡ solverBodyOf a → b ≡ moved (at i .index) dummyBody c
+      → b ≡ loadedBody card s i
+  load-turn i k ea ec eb = rw (eb, ec, ea, index-is i k) (load-as (anchoredAt card i) i (omega (arith, k, S .few-bodies)) (solverBodyOf (bodyStateAt s i)))
+
+  -- ---- gravity, locks and deltas
+
+  integrate-is : (i : ℕ) → i < h .bodies → (bodies : List SolverBody) → length bodies ≡ maxBodies → {b : SolverBody} {dt : Float}
+      → dt ≡ dtOf h → b ≡ integratedOr (at i) (getD bodies i unreadBody) (h .gravity) dt → set bodies i b ≡ integrateNext card h s i bodies
+  unfolding integratedOr cardBodyAt
+  integrate-is i k bodies lb ed eb =
+      let read = getD-in bodies i unreadBody dummyBody (rw lb (omega (arith, k, S .few-bodies))) in
+      rw (eb, ed)
+      (put-is i k bodies (integrated (getD bodies i unreadBody) (at i .inertia) (h .gravity) (dtOf h))
+      ∙ rw (read, D .body unreadTickBody i k))
+
+  integrate-alike : (i : ℕ) → i < h .bodies → (l m : List SolverBody) → take (h .bodies) l ≡ take (h .bodies) m
+      → take (h .bodies) (integrateNext card h s i l) ≡ take (h .bodies) (integrateNext card h s i m)
+  integrate-alike i k l m e =
+      ap (λ b. take (h .bodies) (putMoving card i (integrated b (inertiaAt card i) (h .gravity) (dtOf h)) l)) (take-getD (h .bodies) l m e dummyBody i k)
+      ∙ put-alike (h .bodies) (anchoredAt card i) i k (integrated (getD m i dummyBody) (inertiaAt card i) (h .gravity) (dtOf h)) l m e
+
+  pub integrate-turn : (i : ℕ) → i < h .bodies → (bodies : List SolverBody) → length bodies ≡ maxBodies → {b : SolverBody} {dt : Float}
+      → dt ≡ dtOf h → b ≡ integratedOr (at i) (getD bodies i unreadBody) (h .gravity) dt
+      → take (h .bodies) bodies ≡ take (h .bodies) (after (integrateNext card h s) (warmStarted card h s) i)
+      → take (h .bodies) (set bodies i b) ≡ take (h .bodies) (after (integrateNext card h s) (warmStarted card h s) (i + 1))
+  integrate-turn i k bodies lb ed eb inv =
+      after-alike (integrateNext card h s) (warmStarted card h s) (λ l. take (h .bodies) l) (λ u. integrate-alike i k bodies u) inv (integrate-is i k bodies lb ed eb)
+
+  -- ---- joints
+
+  module _ (j : ℕ) (k : j < h .joints) where
     first-in : firstBody card h s j < h .bodies
     first-in = S .first j k
 
     second-in : secondBody card h s j < h .bodies
     second-in = S .second j k
 
-    first-is : tickBody (firstBody card h s j) ≡ tickBodyAt card s (firstBody card h s j)
-    first-is = held card s (h .bodies) (S .few-bodies) table T (firstBody card h s j) first-in
+    pair-alike : (l m : List SolverBody) → take (h .bodies) l ≡ take (h .bodies) m → pairAt card h s j l ≡ pairAt card h s j m
+    pair-alike l m e =
+        rw (take-getD (h .bodies) l m e dummyBody (firstBody card h s j) first-in, take-getD (h .bodies) l m e dummyBody (secondBody card h s j) second-in)
 
-    second-is : tickBody (secondBody card h s j) ≡ tickBodyAt card s (secondBody card h s j)
-    second-is = held card s (h .bodies) (S .few-bodies) table T (secondBody card h s j) second-in
+    put-pair-alike : (p : BodyPair) (l m : List SolverBody) → take (h .bodies) l ≡ take (h .bodies) m
+        → take (h .bodies) (putPair card h s j p l) ≡ take (h .bodies) (putPair card h s j p m)
+    put-pair-alike p l m e =
+        put-alike (h .bodies) (anchoredAt card (secondBody card h s j)) (secondBody card h s j) second-in (p .body2)
+        (putMoving card (firstBody card h s j) (p .body1) l) (putMoving card (firstBody card h s j) (p .body1) m)
+        (put-alike (h .bodies) (anchoredAt card (firstBody card h s j)) (firstBody card h s j) first-in (p .body1) l m e)
 
-    pair-is : pairOf (jointBits card (h .bodies) j) bodies ≡ pairAt card h s j bodies
-    pair-is =
-        rw (
-          getD-in bodies (firstBody card h s j) unreadBody dummyBody (rw lb (omega (arith, first-in, S .few-bodies))),
-          getD-in bodies (secondBody card h s j) unreadBody dummyBody (rw lb (omega (arith, second-in, S .few-bodies))),
-        )
-
-    -- both bodies put back, one after the other
-    put-both : (pair : BodyPair) {b₁ b₂ : SolverBody}
-        → b₁ ≡ moved (tickBody (firstBody card h s j) .index) (getD bodies (firstBody card h s j) unreadBody) (pair .body1)
-        → b₂ ≡ moved (tickBody (secondBody card h s j) .index) (getD (set bodies (firstBody card h s j) b₁) (secondBody card h s j) unreadBody) (pair .body2)
-        → set (set bodies (firstBody card h s j) b₁) (secondBody card h s j) b₂ ≡ putPair card h s j pair bodies
-    put-both pair {b₁} {b₂} e₁ e₂ =
-        let p = put-is card s (h .bodies) (S .few-bodies) table T (firstBody card h s j) first-in bodies (pair .body1) in
-        let q = put-is card s (h .bodies) (S .few-bodies) table T (secondBody card h s j) second-in (set bodies (firstBody card h s j) b₁) (pair .body2) in
-        rw e₂ (q ∙ ap (λ l. putMoving card (secondBody card h s j) (pair .body2) l) (rw e₁ p))
-
-    -- what a joint's parts make of the bodies in the array
-    joint-is : heldJoint j ≡ knownJoint (jointAt card (h .bodies) j)
-    joint-is = joint-held card h held-joints J (S .few-joints) noRead j k
-
-    warm-is : warmStartedWith (heldJoint j) h s j (tickBody (firstBody card h s j)) (tickBody (secondBody card h s j)) (pairOf (jointBits card (h .bodies) j) bodies)
-        ≡ warmStartedAt card h s j bodies
-    unfolding warmStartedWith warmValueAt preparedAt tickBodyAt standing cardBodyAt rigidAt
-    warm-is = rw (joint-is, first-is, second-is, pair-is)
-
-    solved-is : solvedWith (heldJoint j) h (tickBody (firstBody card h s j)) (tickBody (secondBody card h s j)) (pairOf (jointBits card (h .bodies) j) bodies)
-        ≡ resultOf (solvedAt card h s j bodies)
-    unfolding solvedWith preparedAt tickBodyAt standing cardBodyAt rigidAt
-    solved-is = rw (joint-is, first-is, second-is, pair-is) (any-warm-value _ _ _ _ _ _ _ _ _)
-
-    module _ {b : JointBits} (eb : b ≡ jointBits card (h .bodies) j) (pair : BodyPair) {b₁ b₂ : SolverBody}
-        (e₁ : b₁ ≡ moved (tickBody (b .body1) .index) (getD bodies (b .body1) unreadBody) (pair .body1))
-        (e₂ : b₂ ≡ moved (tickBody (b .body2) .index) (getD (set bodies (b .body1) b₁) (b .body2) unreadBody) (pair .body2)) where
-      put-pair : set (set bodies (b .body1) b₁) (b .body2) b₂ ≡ putPair card h s j pair bodies
-      put-pair = rw eb (put-both pair (rw eb at e₁) (rw eb at e₂))
-
-      pub warm-turn : pair ≡ warmStartedWith (heldJoint j) h s j (tickBody (b .body1)) (tickBody (b .body2)) (pairOf b bodies)
-          → set (set bodies (b .body1) b₁) (b .body2) b₂ ≡ warmStartNext card h s j bodies
-      warm-turn ew = put-pair ∙ ap (λ p. putPair card h s j p bodies) ((rw eb at ew) ∙ warm-is)
-
-      -- the joints so far, one more
-      pub solve-more : (totals : List JointTotals) {r : JointResult} → live bodies totals ≡ before card h s j
-          → r ≡ solvedWith (heldJoint j) h (tickBody (b .body1)) (tickBody (b .body2)) (pairOf b bodies) → r .bodies ≡ pair → not (r .finite) ≡ false
-          → live (set (set bodies (b .body1) b₁) (b .body2) b₂) (set totals j (r .totals)) ≡ before card h s (j + 1)
-      unfolding before solveNext resultOf
-      solve-more totals {r} inv er ep ef =
-          let e = (rw eb at er) ∙ solved-is in
-          let f = sym (ap (λ (r : JointResult). r .finite) e) ∙ not-no (r .finite) ef in
-          after-turn (solveNext card h s) (live (preSolve card h s) (replicate maxJoints noTotals)) inv
-          (rw (f, put-pair, ← ep, e))
-
-    -- the last
-    pub solve-stop : {b : JointBits} (totals : List JointTotals) {r : JointResult} → b ≡ jointBits card (h .bodies) j
-        → live bodies totals ≡ before card h s j → r ≡ solvedWith (heldJoint j) h (tickBody (b .body1)) (tickBody (b .body2)) (pairOf b bodies)
-        → not (r .finite) ≡ true → stop (live bodies totals) ≡ before card h s (h .joints)
-    unfolding before solveNext resultOf
-    solve-stop {b} totals {r} eb inv er ef =
-        let e = (rw eb at er) ∙ solved-is in
-        let f = sym (ap (λ (r : JointResult). r .finite) e) ∙ not-yes (r .finite) ef in
-        let last : stop (live bodies totals) ≡ after (solveNext card h s) (live (preSolve card h s) (replicate maxJoints noTotals)) (j + 1) =
-        after-turn (solveNext card h s) (live (preSolve card h s) (replicate maxJoints noTotals)) inv (rw f) in
-        last
-        ∙ sym (after-kept (solveNext card h s) (live (preSolve card h s) (replicate maxJoints noTotals)) (j + 1) (h .joints) (omega arith) (λ m. rw (← last)))
+    warm-alike : (l m : List SolverBody) → take (h .bodies) l ≡ take (h .bodies) m
+        → take (h .bodies) (warmStartNext card h s j l) ≡ take (h .bodies) (warmStartNext card h s j m)
+    warm-alike l m e =
+        let i = inertiasAt card h s j in
+        ap (λ p. take (h .bodies) (putPair card h s j (jointWarmStarted (preparedAt card h s j) p (i .inertia1) (i .inertia2) (h .«warm_coefficient») .bodies) l)) (pair-alike l m e)
+        ∙ put-pair-alike (warmStartedAt card h s j m) l m e
 
     -- a joint without a motor warms nothing
-    pub warm-skip : {b : JointBits} → b ≡ jointBits card (h .bodies) j → b .motor ≡ 0 → bodies ≡ warmStartNext card h s j bodies
+    pub warm-skip : (bodies : List SolverBody) {b : JointBits} → b ≡ jointBits card (h .bodies) j → b .motor ≡ 0
+        → take (h .bodies) bodies ≡ take (h .bodies) (after (warmStartNext card h s) (loaded card h s) j)
+        → take (h .bodies) bodies ≡ take (h .bodies) (after (warmStartNext card h s) (loaded card h s) (j + 1))
     unfolding preparedAt jointAt
-    warm-skip {b} eb em =
+    warm-skip bodies {b} eb em inv =
         let off = motorless card (jointBits card (h .bodies) j) (jointFloats (h .bodies) j) (rw eb at em) in
-        sym (ap (λ p. putPair card h s j p bodies) (unwarmed _ off _ _ _ _ _ _ _) ∙ put-back card h s j bodies)
+        after-alike (warmStartNext card h s) (loaded card h s) (λ l. take (h .bodies) l) (λ u. warm-alike bodies u) inv
+        (sym (ap (λ p. putPair card h s j p bodies) (unwarmed _ off _ _ _ _ _ _ _) ∙ put-back card h s j bodies))
+
+    module _ (bodies : List SolverBody) (lb : length bodies ≡ maxBodies) {b : JointBits} (eb : b ≡ jointBits card (h .bodies) j) where
+      abbrev pairOf : BodyPair
+      pairOf = record { body1 = getD bodies (b .body1) unreadBody; body2 = getD bodies (b .body2) unreadBody }
+
+      pair-is : pairOf ≡ pairAt card h s j bodies
+      pair-is =
+          rw eb (rw (
+            getD-in bodies (firstBody card h s j) unreadBody dummyBody (rw lb (omega (arith, first-in, S .few-bodies))),
+            getD-in bodies (secondBody card h s j) unreadBody dummyBody (rw lb (omega (arith, second-in, S .few-bodies))),
+          ))
+
+      first-is : at (b .body1) ≡ cardBodyAt card (firstBody card h s j)
+      first-is = rw eb (D .body unreadTickBody (firstBody card h s j) first-in)
+
+      second-is : at (b .body2) ≡ cardBodyAt card (secondBody card h s j)
+      second-is = rw eb (D .body unreadTickBody (secondBody card h s j) second-in)
+
+      -- both bodies put back, one after the other
+      put-both : (pair : BodyPair) {b₁ b₂ : SolverBody} → b₁ ≡ moved (at (b .body1) .index) (getD bodies (b .body1) unreadBody) (pair .body1)
+          → b₂ ≡ moved (at (b .body2) .index) (getD (set bodies (b .body1) b₁) (b .body2) unreadBody) (pair .body2)
+          → set (set bodies (b .body1) b₁) (b .body2) b₂ ≡ putPair card h s j pair bodies
+      put-both pair {b₁} {b₂} e₁ e₂ =
+          let f = firstBody card h s j in
+          let p = put-is f first-in bodies (pair .body1) in
+          let q = put-is (secondBody card h s j) second-in (set bodies f b₁) (pair .body2) in
+          rw eb (rw (rw eb at e₂) (q ∙ ap (λ l. putMoving card (secondBody card h s j) (pair .body2) l) (rw (rw eb at e₁) p)))
+
+      module _ (d : Joint) {r₁ r₂ : RigidBody} (er₁ : r₁ ≡ rigidIn s (b .body1) (at (b .body1) .«center_of_mass»)) (er₂ : r₂ ≡ rigidIn s (b .body2) (at (b .body2) .«center_of_mass»)) where
+        rigid₁ : r₁ ≡ rigidAt card s (firstBody card h s j)
+        rigid₁ = rigid-is (firstBody card h s j) first-in (rw eb at er₁)
+
+        rigid₂ : r₂ ≡ rigidAt card s (secondBody card h s j)
+        rigid₂ = rigid-is (secondBody card h s j) second-in (rw eb at er₂)
+
+        module _ {pair : BodyPair} {b₁ b₂ : SolverBody} (e₁ : b₁ ≡ moved (at (b .body1) .index) (getD bodies (b .body1) unreadBody) (pair .body1))
+            (e₂ : b₂ ≡ moved (at (b .body2) .index) (getD (set bodies (b .body1) b₁) (b .body2) unreadBody) (pair .body2)) {dt : Float} (ed : dt ≡ dtOf h) where
+          warm-is : {last : JointTotals} → last ≡ totalsAt s (h .bodies) j
+              → pair ≡ warmStartedWith (getD held j d) r₁ r₂ last pairOf (at (b .body1) .inertia) (at (b .body2) .inertia) (h .«warm_coefficient») dt
+              → pair ≡ warmStartedAt card h s j bodies
+          unfolding warmStartedWith preparedAt cardBodyAt
+          warm-is el e = e ∙ rw (D .joint d j k, rigid₁, rigid₂, el, ed, pair-is, first-is, second-is)
+
+          pub warm-turn : {last : JointTotals} → last ≡ totalsAt s (h .bodies) j
+              → pair ≡ warmStartedWith (getD held j d) r₁ r₂ last pairOf (at (b .body1) .inertia) (at (b .body2) .inertia) (h .«warm_coefficient») dt
+              → take (h .bodies) bodies ≡ take (h .bodies) (after (warmStartNext card h s) (loaded card h s) j)
+              → take (h .bodies) (set (set bodies (b .body1) b₁) (b .body2) b₂) ≡ take (h .bodies) (after (warmStartNext card h s) (loaded card h s) (j + 1))
+          warm-turn el e inv =
+              after-alike (warmStartNext card h s) (loaded card h s) (λ l. take (h .bodies) l) (λ u. warm-alike bodies u) inv
+              (put-both pair e₁ e₂ ∙ ap (λ p. putPair card h s j p bodies) (warm-is el e))
+
+        module _ {dt : Float} (ed : dt ≡ dtOf h) (totals : List JointTotals) (R : Running card h s j bodies totals) {r : JointResult}
+            (er : r ≡ solvedWith (getD held j d) r₁ r₂ pairOf (at (b .body1) .inertia) (at (b .body2) .inertia) dt) where
+          solved-is : r ≡ resultOf (solvedAt card h s j (before card h s j .bodies))
+          unfolding solvedWith preparedAt cardBodyAt
+          solved-is =
+              er
+              ∙ rw (D .joint d j k, rigid₁, rigid₂, ed, pair-is, first-is, second-is, pair-alike bodies (before card h s j .bodies) (R .bodies-as))
+              (any-warm-value _ _ _ _ _ _ _ _ _)
+
+          finite-is : r .finite ≡ jointFinite (solvedAt card h s j (before card h s j .bodies))
+          unfolding resultOf
+          finite-is = ap (λ (r : JointResult). r .finite) solved-is
+
+          -- the joint that stops the solve
+          pub solve-stop : not (r .finite) ≡ true → before card h s (h .joints) .stopped ≡ true
+          solve-stop ef =
+              stays-stopped card h s (j + 1) (h .joints) (omega arith)
+              (ap (λ (σ : Solved). σ .stopped) (next card h s j ∙ next-stopped card h s j (before card h s j) (R .going) (sym finite-is ∙ not-yes (r .finite) ef)))
+
+          -- the joints so far, one more
+          pub solve-more : not (r .finite) ≡ false → length totals ≡ maxJoints → {b₁ b₂ : SolverBody}
+              → b₁ ≡ moved (at (b .body1) .index) (getD bodies (b .body1) unreadBody) (r .bodies .body1)
+              → b₂ ≡ moved (at (b .body2) .index) (getD (set bodies (b .body1) b₁) (b .body2) unreadBody) (r .bodies .body2)
+              → Running card h s (j + 1) (set (set bodies (b .body1) b₁) (b .body2) b₂) (set totals j (r .totals))
+          unfolding resultOf
+          solve-more ef lt {b₁} {b₂} e₁ e₂ =
+              let σ = before card h s j in
+              let n = next card h s j ∙ next-solved card h s j σ (R .going) (sym finite-is ∙ not-no (r .finite) ef) in
+              let short : j < maxJoints = omega (arith, k, S .few-joints) in
+              record {
+                going = ap (λ (σ : Solved). σ .stopped) n;
+                bodies-as =
+                    ap (λ l. take (h .bodies) l) (put-both (r .bodies) e₁ e₂)
+                    ∙ put-pair-alike (r .bodies) bodies (σ .bodies) (R .bodies-as)
+                    ∙ ap (λ (r : JointResult). take (h .bodies) (putPair card h s j (r .bodies) (σ .bodies))) solved-is
+                    ∙ ap (λ (σ : Solved). take (h .bodies) (σ .bodies)) (sym n);
+                totals-as =
+                    take-turn totals (σ .totals) j (r .totals) (rw lt short) (rw (R .places) short) (R .totals-as)
+                    ∙ ap (λ (r : JointResult). take (j + 1) (set (σ .totals) j (r .totals))) solved-is
+                    ∙ ap (λ (σ : Solved). take (j + 1) (σ .totals)) (sym n);
+                places = ap (λ (σ : Solved). length (σ .totals)) n ∙ length-set (σ .totals) j _ ∙ R .places;
+              }

@@ -1,6 +1,6 @@
 -- Document 01, 'Examples': one tick of the card with one body, no joints and rate 16, all zero but rotation w 1 and x velocity 16. Definitions only.
 use mathlib.Core.Path.{_≡_}
-use mathlib.Core.List.{List, [], _∷_}
+use mathlib.Core.List.{[], _∷_}
 use lib.ListN.{take}
 use Rattle.scalar.specs.Arith.{f0, f1}
 use Rattle.card.specs.Examples.{exampleCard}

@@ -4,11 +4,9 @@ ghost use Prim.Native.Nat.{_+_, _*_, _≤_, _<_};
 ghost use lib.ListN.{length};
 ghost use Rattle.card.specs.Layout.{maxBodies, bodyBytes, bodyPlace, bodyNumbers, jointNumbers};
 ghost use Rattle.table.specs.Tick.{vec3In, quatIn, bodyStateAt, totalsPlace, totalsAt};
-ghost use Rattle.table.specs.Parts.{SoundCard, indexOf, cardBodyAt, CardBodies, standing, moved, integratedOr};
+ghost use Rattle.table.specs.Parts.{rigidIn, indexOf, moved, cardBodyAt, integratedOr};
 use card::layout::BODY_NUMBERS;
 use card::layout::JOINT_NUMBERS;
-use card::layout::MAX_BODIES;
-use card::records::Header;
 use card::records::body_bits;
 use card_records::body::center_of_mass_at;
 use card_records::body::inertia_at;
@@ -22,24 +20,12 @@ use tick::joint::JointTotals;
 use vector::Quat;
 use vector::Vec3;
 
-// What a tick reads of a body.
+// What a tick reads of a body of the card.
 pub struct TickBody {
     // `INVALID` for an anchored body.
     pub index: SolverBodyIndex,
-    pub rigid: RigidBody,
+    pub center_of_mass: Vec3,
     pub inertia: SolverBodyInertia,
-}
-
-impl TickBody {
-    pub const NONE: TickBody = TickBody {
-        index: SolverBodyIndex::INVALID,
-        rigid: RigidBody {
-            position: Vec3::ZERO,
-            rotation: Quat::IDENTITY,
-            center_of_mass: Vec3::ZERO,
-        },
-        inertia: SolverBodyInertia::DUMMY,
-    };
 }
 
 fn vec3_in(state: &[f32], at: usize) -> Vec3
@@ -79,6 +65,19 @@ pub fn body_state_at(state: &[f32], i: usize) -> BodyState
     }
 }
 
+// Body i where the state has it.
+pub fn rigid_in(state: &[f32], i: usize, center_of_mass: Vec3) -> RigidBody
+    requires { ⌜ bodyNumbers * i + bodyNumbers ≤ length (now state) ⌝ }
+    ensures { λ r. ⌜ r ≡ rigidIn (now (state .entry)) i «center_of_mass» ⌝ }
+{
+    let at = BODY_NUMBERS * i;
+    RigidBody {
+        position: vec3_in(state, at),
+        rotation: quat_in(state, at + 3),
+        center_of_mass,
+    }
+}
+
 // The 12 numbers of joint j, behind those of the bodies.
 pub fn totals_at(state: &[f32], bodies: usize, j: usize) -> JointTotals
     requires { ⌜ totalsPlace bodies j + jointNumbers ≤ length (now state) ⌝ }
@@ -110,54 +109,14 @@ pub fn moved(index: SolverBodyIndex, old: SolverBody, new: SolverBody) -> Solver
     if index.is_valid() { new } else { old }
 }
 
-fn card_body_at(card: &[u8], i: usize) -> TickBody
+pub fn card_body_at(card: &[u8], i: usize) -> TickBody
     requires { ⌜ (i < maxBodies) × (bodyPlace i + bodyBytes ≤ length (now card)) ⌝ }
     ensures { λ r. ⌜ r ≡ cardBodyAt (now (card .entry)) i ⌝ }
 {
     TickBody {
         index: index_of(body_bits(card, i).anchored, i),
-        rigid: RigidBody {
-            position: Vec3::ZERO,
-            rotation: Quat::IDENTITY,
-            center_of_mass: center_of_mass_at(card, i),
-        },
+        center_of_mass: center_of_mass_at(card, i),
         inertia: inertia_at(card, i),
-    }
-}
-
-// The bodies, each in its place, before they stand anywhere: decoded once for all ticks.
-pub fn card_bodies(card: &[u8], h: Header) -> [TickBody; MAX_BODIES]
-    requires { ⌜ SoundCard (now card) h ⌝ }
-    ensures { λ r. ⌜ CardBodies (now (card .entry)) h r ⌝ }
-{
-    let count = h.bodies;
-    let mut table = [TickBody::NONE; MAX_BODIES];
-    let mut i = 0;
-    while i < count {
-        let b = card_body_at(card, i);
-        table[i] = b;
-        i += 1;
-    }
-    table
-}
-
-// A body of the card where the state has it.
-pub fn standing(b: TickBody, at: BodyState) -> TickBody
-    ensures { λ r. ⌜ r ≡ standing b at ⌝ }
-{
-    let position = at.position;
-    let rotation = at.rotation;
-    let index = b.index;
-    let inertia = b.inertia;
-    let center_of_mass = b.rigid.center_of_mass;
-    TickBody {
-        index,
-        rigid: RigidBody {
-            position,
-            rotation,
-            center_of_mass,
-        },
-        inertia,
     }
 }
 

@@ -5,12 +5,15 @@ ghost use Rattle.card.specs.Checks.{checkOf};
 ghost use Rattle.card_records.specs.State.{answered};
 ghost use Rattle.table.specs.Run.{tickOf, runOf};
 ghost use Rattle.table.specs.Parts.{ticksOf};
+use crate::load::TickBody;
 use crate::load::body_state_at;
-use crate::load::card_bodies;
+use crate::load::card_body_at;
 use crate::load::integrated_or;
 use crate::load::moved;
-use crate::load::standing;
-use crate::solve::card_joints;
+use crate::load::rigid_in;
+use crate::load::totals_at;
+use crate::solve::NO_JOINT;
+use crate::solve::known_joint;
 use crate::solve::solve_joint;
 use crate::solve::warm_start_joint;
 use crate::store::finished_or;
@@ -22,12 +25,53 @@ use card::layout::MAX_BODIES;
 use card::layout::MAX_JOINTS;
 use card::records::header_at;
 use card::records::joint_bits;
+use card_records::joint::joint_at;
 use card_records::state::check_state;
 use card_records::state::state_answer;
 use solver_body::BodyPair;
 use solver_body::SolverBody;
+use solver_body::SolverBodyIndex;
+use solver_body::SolverBodyInertia;
 use tick::body::BodyState;
 use tick::joint::JointTotals;
+use vector::Quat;
+use vector::SymmetricTensor;
+use vector::Vec3;
+
+// What the arrays hold before they are filled: all bits zero, which is cleared fastest. Nothing reads it.
+const CLEAR_TICK_BODY: TickBody = TickBody {
+    index: SolverBodyIndex(0),
+    center_of_mass: Vec3::ZERO,
+    inertia: SolverBodyInertia {
+        inv_mass: 0.0,
+        inv_angular_inertia: SymmetricTensor::ZERO,
+        dominance: 0,
+        translation_x_locked: false,
+        translation_y_locked: false,
+        translation_z_locked: false,
+    },
+};
+
+const CLEAR_ROTATION: Quat = Quat {
+    x: 0.0,
+    y: 0.0,
+    z: 0.0,
+    w: 0.0,
+};
+
+const CLEAR_BODY: SolverBody = SolverBody {
+    linear_velocity: Vec3::ZERO,
+    angular_velocity: Vec3::ZERO,
+    delta_position: Vec3::ZERO,
+    delta_rotation: CLEAR_ROTATION,
+};
+
+const CLEAR_STATE: BodyState = BodyState {
+    position: Vec3::ZERO,
+    rotation: CLEAR_ROTATION,
+    linear_velocity: Vec3::ZERO,
+    angular_velocity: Vec3::ZERO,
+};
 
 // Ticks in a row of a card that no check refuses, up to the first that is refused. All loops over arrays are here: an array that is passed is copied.
 fn run_checked(card: &[u8], state: &mut [f32], ticks: u32) -> Answer
@@ -37,27 +81,42 @@ fn run_checked(card: &[u8], state: &mut [f32], ticks: u32) -> Answer
     let h = header_at(card);
     let count = h.bodies;
     let joints = h.joints;
-    let mut table = card_bodies(card, h);
-    let card_joints = card_joints(card, h);
+    let dt = h.dt();
+    // The card's bodies and joints: decoded once for all ticks.
+    let mut table = [CLEAR_TICK_BODY; MAX_BODIES];
+    let mut i = 0;
+    while i < count {
+        let t = card_body_at(card, i);
+        table[i] = t;
+        i += 1;
+    }
+    let mut card_joints = [NO_JOINT; MAX_JOINTS];
+    let mut j = 0;
+    while j < joints {
+        let joint = known_joint(joint_at(card, count, j));
+        card_joints[j] = joint;
+        j += 1;
+    }
+    let mut bodies = [CLEAR_BODY; MAX_BODIES];
+    let mut totals = [JointTotals::ZERO; MAX_JOINTS];
+    let mut new = [CLEAR_STATE; MAX_BODIES];
     let mut done = 0;
     while done < ticks {
-        let answer = state_answer(h.bodies, h.joints, state);
+        let answer = state_answer(count, joints, state);
         if answer.number() != 0 {
             return answer;
         }
-        // The bodies where the state has them, and those of the solver.
-        let mut bodies = [SolverBody::DUMMY; MAX_BODIES];
-        let mut k = 0;
-        while k < count {
-            let at = body_state_at(state, k);
-            let t = standing(table[k], at);
-            table[k] = t;
-            let b = moved(t.index, bodies[k], at.solver_body());
-            bodies[k] = b;
-            k += 1;
+        // The solver's bodies.
+        i = 0;
+        while i < count {
+            let t = table[i];
+            let at = body_state_at(state, i);
+            let b = moved(t.index, SolverBody::DUMMY, at.solver_body());
+            bodies[i] = b;
+            i += 1;
         }
         // The motors' warm start.
-        let mut j = 0;
+        j = 0;
         while j < joints {
             let bits = joint_bits(card, count, j);
             // A joint without a motor has nothing to warm.
@@ -69,12 +128,25 @@ fn run_checked(card: &[u8], state: &mut [f32], ticks: u32) -> Answer
             let second = bits.body2;
             let t1 = table[first];
             let t2 = table[second];
+            let body1 = rigid_in(state, first, t1.center_of_mass);
+            let body2 = rigid_in(state, second, t2.center_of_mass);
             let pair = BodyPair {
                 body1: bodies[first],
                 body2: bodies[second],
             };
             let joint = card_joints[j];
-            let warm = warm_start_joint(joint, h, state, j, t1, t2, pair);
+            let last = totals_at(state, count, j);
+            let warm = warm_start_joint(
+                joint,
+                body1,
+                body2,
+                last,
+                pair,
+                t1.inertia,
+                t2.inertia,
+                h.warm_coefficient,
+                dt,
+            );
             let b1 = moved(t1.index, bodies[first], warm.body1);
             bodies[first] = b1;
             let b2 = moved(t2.index, bodies[second], warm.body2);
@@ -82,8 +154,7 @@ fn run_checked(card: &[u8], state: &mut [f32], ticks: u32) -> Answer
             j += 1;
         }
         // Gravity, the locks, and the deltas of the velocities.
-        let dt = h.dt();
-        let mut i = 0;
+        i = 0;
         while i < count {
             let b = integrated_or(table[i], bodies[i], h.gravity, dt);
             bodies[i] = b;
@@ -91,7 +162,6 @@ fn run_checked(card: &[u8], state: &mut [f32], ticks: u32) -> Answer
         }
         // The solve.
         let pre_solve = bodies;
-        let mut totals = [JointTotals::ZERO; MAX_JOINTS];
         j = 0;
         while j < joints {
             let bits = joint_bits(card, count, j);
@@ -99,12 +169,14 @@ fn run_checked(card: &[u8], state: &mut [f32], ticks: u32) -> Answer
             let second = bits.body2;
             let t1 = table[first];
             let t2 = table[second];
+            let body1 = rigid_in(state, first, t1.center_of_mass);
+            let body2 = rigid_in(state, second, t2.center_of_mass);
             let pair = BodyPair {
                 body1: bodies[first],
                 body2: bodies[second],
             };
             let joint = card_joints[j];
-            let solved = solve_joint(joint, h, t1, t2, pair);
+            let solved = solve_joint(joint, body1, body2, pair, t1.inertia, t2.inertia, dt);
             if !solved.finite {
                 return Answer::Stopped;
             }
@@ -117,10 +189,11 @@ fn run_checked(card: &[u8], state: &mut [f32], ticks: u32) -> Answer
             j += 1;
         }
         // The new numbers: all of them are looked at before one is written.
-        let mut new = [BodyState::REST; MAX_BODIES];
         i = 0;
         while i < count {
-            let b = finished_or(table[i], pre_solve[i], bodies[i], dt);
+            let t = table[i];
+            let body = rigid_in(state, i, t.center_of_mass);
+            let b = finished_or(t.index, body, pre_solve[i], bodies[i], dt);
             if b.fault() {
                 return Answer::Stopped;
             }
@@ -129,12 +202,13 @@ fn run_checked(card: &[u8], state: &mut [f32], ticks: u32) -> Answer
         }
         i = 0;
         while i < count {
-            store_body(state, i, table[i], new[i]);
+            let t = table[i];
+            store_body(state, i, t.index, new[i]);
             i += 1;
         }
         j = 0;
         while j < joints {
-            write_totals(state, h.bodies, j, totals[j]);
+            write_totals(state, count, j, totals[j]);
             j += 1;
         }
         done += 1;

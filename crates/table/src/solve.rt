@@ -1,110 +1,89 @@
 // A joint of a card: its warm start, and its solve.
 ghost use mathlib.Core.Path.{_≡_};
-ghost use Prim.Native.Nat.{_≤_, _<_};
-ghost use Rattle.card.specs.Layout.{maxRate};
 ghost use Rattle.table.specs.Tick.{knownJoint};
-ghost use Rattle.table.specs.Parts.{SoundCard, SoundState, CardJoints, warmValueAt, warmStartedWith, solvedWith};
-use crate::load::TickBody;
-use crate::load::totals_at;
-use card::layout::MAX_JOINTS;
-use card::records::Header;
+ghost use Rattle.table.specs.Parts.{warmStartedWith, solvedWith};
 use card_records::joint::CardJoint;
-use card_records::joint::joint_at;
 use joints::DistanceLimit;
 use joints::Joint;
 use joints::distance::DistanceJoint;
 use solver_body::BodyPair;
+use solver_body::RigidBody;
+use solver_body::SolverBodyInertia;
 use tick::joint;
 use tick::joint::JointResult;
+use tick::joint::JointTotals;
 use vector::Vec3;
 use xpbd_plugin::dominated;
 
+// Where there is no joint: a tether of body 0 with itself.
+pub const NO_JOINT: Joint = Joint::Distance(DistanceJoint {
+    body1: 0,
+    body2: 0,
+    anchor1: Vec3::ZERO,
+    anchor2: Vec3::ZERO,
+    limits: DistanceLimit::ZERO,
+    compliance: 0.0,
+});
+
 // A card that no check refuses has no unknown kind.
-fn known_joint(joint: CardJoint) -> Joint
+pub fn known_joint(joint: CardJoint) -> Joint
     ensures { λ r. ⌜ r ≡ knownJoint joint ⌝ }
 {
     match joint {
         CardJoint::Known(known) => known,
-        CardJoint::Unknown => Joint::Distance(DistanceJoint {
-            body1: 0,
-            body2: 0,
-            anchor1: Vec3::ZERO,
-            anchor2: Vec3::ZERO,
-            limits: DistanceLimit::ZERO,
-            compliance: 0.0,
-        }),
+        CardJoint::Unknown => NO_JOINT,
     }
 }
 
-// The joints, each in its place: decoded once for all ticks.
-pub fn card_joints(card: &[u8], h: Header) -> [Joint; MAX_JOINTS]
-    requires { ⌜ SoundCard (now card) h ⌝ }
-    ensures { λ r. ⌜ CardJoints (now (card .entry)) h r ⌝ }
-{
-    let count = h.joints;
-    let mut joints = [known_joint(CardJoint::Unknown); MAX_JOINTS];
-    let mut j = 0;
-    while j < count {
-        let joint = known_joint(joint_at(card, h.bodies, j));
-        joints[j] = joint;
-        j += 1;
-    }
-    joints
-}
-
-fn warm_value_at(joint: Joint, h: Header, state: &[f32], j: usize) -> Vec3
-    requires { ⌜ (h .rate ≤ maxRate) × SoundState h (now state) × (j < h .joints) ⌝ }
-    ensures { λ r. ⌜ r ≡ warmValueAt joint h (now (state .entry)) j ⌝ }
-{
-    joint::warm_value(joint, totals_at(state, h.bodies, j), h.dt())
-}
-
+// The totals are those of the last tick.
 pub fn warm_start_joint(
     joint: Joint,
-    h: Header,
-    state: &[f32],
-    j: usize,
-    body1: TickBody,
-    body2: TickBody,
+    body1: RigidBody,
+    body2: RigidBody,
+    totals: JointTotals,
     bodies: BodyPair,
+    inertia1: SolverBodyInertia,
+    inertia2: SolverBodyInertia,
+    warm_coefficient: f32,
+    dt: f32,
 ) -> BodyPair
-    requires { ⌜ (h .rate ≤ maxRate) × SoundState h (now state) × (j < h .joints) ⌝ }
-    ensures { λ r. ⌜ r ≡ warmStartedWith joint h (now (state .entry)) j body1 body2 bodies ⌝ }
+    ensures { λ r. ⌜ r ≡ warmStartedWith joint body1 body2 totals bodies inertia1 inertia2 «warm_coefficient» dt ⌝ }
 {
-    let warm_value = warm_value_at(joint, h, state, j);
-    let i = dominated(body1.inertia, body2.inertia);
+    let warm_value = joint::warm_value(joint, totals, dt);
+    let i = dominated(inertia1, inertia2);
     joint::warm_start_joint(
         joint,
-        body1.rigid,
-        body2.rigid,
+        body1,
+        body2,
         warm_value,
         bodies,
         i.inertia1,
         i.inertia2,
-        h.warm_coefficient,
+        warm_coefficient,
     )
 }
 
 // The solve asks for no warm value, so none is worked out.
 pub fn solve_joint(
     joint: Joint,
-    h: Header,
-    body1: TickBody,
-    body2: TickBody,
+    body1: RigidBody,
+    body2: RigidBody,
     bodies: BodyPair,
+    inertia1: SolverBodyInertia,
+    inertia2: SolverBodyInertia,
+    dt: f32,
 ) -> JointResult
-    requires { ⌜ h .rate ≤ maxRate ⌝ }
-    ensures { λ r. ⌜ r ≡ solvedWith joint h body1 body2 bodies ⌝ }
+    ensures { λ r. ⌜ r ≡ solvedWith joint body1 body2 bodies inertia1 inertia2 dt ⌝ }
 {
-    let i = dominated(body1.inertia, body2.inertia);
+    let i = dominated(inertia1, inertia2);
     joint::solve_joint(
         joint,
-        body1.rigid,
-        body2.rigid,
+        body1,
+        body2,
         Vec3::ZERO,
         bodies,
         i.inertia1,
         i.inertia2,
-        h.dt(),
+        dt,
     )
 }

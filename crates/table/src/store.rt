@@ -6,31 +6,38 @@ ghost use lib.Seq.{sets};
 ghost use Rattle.card.specs.Layout.{bodyNumbers, jointNumbers};
 ghost use Rattle.table.specs.Tick.{totalsPlace, totalsNumbers};
 ghost use Rattle.table.specs.Parts.{finishedOr, storeMoving};
-use crate::load::TickBody;
 use card::layout::BODY_NUMBERS;
 use card::layout::JOINT_NUMBERS;
 use card_records::state::write_body;
 use card_records::state::write_vec3;
+use solver_body::RigidBody;
 use solver_body::SolverBody;
+use solver_body::SolverBodyIndex;
 use tick::body::BodyState;
 use tick::body::finish;
 use tick::joint::JointTotals;
 
-pub fn finished_or(t: TickBody, pre_solve: SolverBody, body: SolverBody, dt: f32) -> BodyState
-    ensures { λ r. ⌜ r ≡ finishedOr t «pre_solve» body dt ⌝ }
+pub fn finished_or(
+    index: SolverBodyIndex,
+    rigid: RigidBody,
+    pre_solve: SolverBody,
+    body: SolverBody,
+    dt: f32,
+) -> BodyState
+    ensures { λ r. ⌜ r ≡ finishedOr index rigid «pre_solve» body dt ⌝ }
 {
-    if t.index.is_valid() {
-        return finish(t.rigid, pre_solve, body, dt);
+    if index.is_valid() {
+        return finish(rigid, pre_solve, body, dt);
     }
     BodyState::REST
 }
 
 // The new numbers of a body that moves.
-pub fn store_body(state: &mut [f32], i: usize, t: TickBody, b: BodyState)
+pub fn store_body(state: &mut [f32], i: usize, index: SolverBodyIndex, b: BodyState)
     requires { ⌜ bodyNumbers * i + bodyNumbers ≤ length (now state) ⌝ }
-    ensures { λ _. ⌜ now (state .exit) ≡ storeMoving t b i (now (state .entry)) ⌝ }
+    ensures { λ _. ⌜ now (state .exit) ≡ storeMoving index b i (now (state .entry)) ⌝ }
 {
-    if t.index.is_valid() {
+    if index.is_valid() {
         write_body(
             state,
             i,
