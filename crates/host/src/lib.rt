@@ -1,4 +1,4 @@
-// The table's calls for C and Rust, what the box's program is built on: a slice is a pointer and a count. Each answers the refusal's number, 0 for done.
+// The table's calls for C and Rust: a slice is a pointer and a count. Each answers the refusal's number, 0 for done.
 ghost use mathlib.Core.Path.{_≡_};
 ghost use Rattle.card.specs.Checks.{checkOf};
 ghost use Rattle.card_records.specs.State.{answered, startOf};

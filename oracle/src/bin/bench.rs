@@ -36,10 +36,11 @@ struct Case {
     start: Vec<f32>,
 }
 
-/// Links a step apart along x, the first anchored: a chain of so many joints, closed to a loop where there is no body left. Each link turns a little at
-/// the start, so that the motion leaves the plane. Limits keep each joint within `reach`, and motors push past 0.0625.
+/// Links a step apart along x, the first anchored, and as many joints: the last goes back to the first link, so that a joint has one body in each length. A
+/// single joint has two. Each link turns a little at the start, so that the motion leaves the plane. Limits keep each joint within `reach`, and motors push
+/// past 0.0625.
 fn linkage(name: &str, joints: usize, reach: f32, kind: impl Fn(usize) -> u32) -> Case {
-    let bodies = (joints + 1).min(32);
+    let bodies = joints.max(2);
     let mut card = Card {
         edition: 1,
         rate: 240,
@@ -98,7 +99,8 @@ fn case(name: &str) -> Case {
     let joints = joints.parse().expect("a number of joints");
     match KINDS.iter().position(|other| *other == kind) {
         Some(kind) => linkage(name, joints, 0.5, |_| kind as u32),
-        None => linkage(name, joints, 0.0625, |i| i as u32 % 5),
+        None if kind == "mixed" => linkage(name, joints, 0.0625, |i| i as u32 % 5),
+        None => panic!("no kind {kind}"),
     }
 }
 
@@ -259,22 +261,32 @@ fn head(cells: &str) {
     println!("|---|{}", "---:|".repeat(cells.matches('|').count()));
 }
 
-/// What the Rattle takes for a joint in chains of 4 to 32, and how much the dearest length is over the cheapest. A line through the lengths 4 and 32 has a
-/// part for each joint and one for the tick.
+/// How much the largest is over the least.
+fn spread(numbers: &[f64]) -> String {
+    let most = numbers.iter().copied().fold(0.0, f64::max);
+    let least = numbers.iter().copied().fold(f64::MAX, f64::min);
+    format!("{:.0} %", 100.0 * (most / least - 1.0))
+}
+
+/// What the Rattle takes for a joint in chains of 4 to 32, and what each joint more adds between these lengths. A line through the lengths 4 and 32 has a
+/// part for the tick.
 fn flatness(cases: &[Case], figures: &[Figures]) {
-    head("call, kind | 4 | 8 | 16 | 32 | spread | for each joint | for the tick");
+    head(
+        "call, kind | 4 | 8 | 16 | 32 | spread | 4 to 8 | 8 to 16 | 16 to 32 | spread | for the tick",
+    );
     let of = |name: String| figures[cases.iter().position(|case| case.name == name).unwrap()];
     for (call, name) in CALLS.iter().enumerate() {
         for kind in KINDS {
-            let each = [4, 8, 16, 32].map(|n| of(format!("{kind} {n}"))[call][1]);
-            let joint = [0, 1, 2, 3].map(|i| each[i] / [4.0, 8.0, 16.0, 32.0][i]);
-            let most = joint.iter().copied().fold(0.0, f64::max);
-            let least = joint.iter().copied().fold(f64::MAX, f64::min);
-            let slope = (each[3] - each[0]) / 28.0;
+            let each = [4, 8, 16, 32].map(|n| (n as f64, of(format!("{kind} {n}"))[call][1]));
+            let slope = |i: usize, j: usize| (each[j].1 - each[i].1) / (each[j].0 - each[i].0);
+            let joint = each.map(|(n, cost)| cost / n);
+            let more = [0, 1, 2].map(|i| slope(i, i + 1));
             let mut cells = vec![format!("{name}, {kind}")];
             cells.extend(joint.map(whole));
-            cells.push(format!("{:.0} %", 100.0 * (most / least - 1.0)));
-            cells.extend([slope, each[0] - 4.0 * slope].map(whole));
+            cells.push(spread(&joint));
+            cells.extend(more.map(whole));
+            cells.push(spread(&more));
+            cells.push(whole(each[0].1 - each[0].0 * slope(0, 3)));
             row(&cells);
         }
     }

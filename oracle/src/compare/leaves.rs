@@ -1,6 +1,6 @@
 //! Single operations and single joints: the oracle's answer to a list of numbers, and inputs for it.
 //!
-//! A leaf's input and output are lists of f32 in the order that the Rattle's crate `host` gives. Whole numbers (a model, locks, dominances) come
+//! A leaf's input and output are lists of f32 in the order that the Rattle's crate `host_parts` gives. Whole numbers (a model, locks, dominances) come
 //! first and as f32s.
 
 use super::{all_same, in_hex, number_bytes, shrink, Difference, Hits};
