@@ -134,18 +134,6 @@ pub fn sin_cos(a: f32) -> SinCos
     }
 }
 
-pub fn sin(a: f32) -> f32
-    ensures { λ r. ⌜ r ≡ sinOf a ⌝ }
-{
-    sin_cos(a).sin
-}
-
-pub fn cos(a: f32) -> f32
-    ensures { λ r. ⌜ r ≡ cosOf a ⌝ }
-{
-    sin_cos(a).cos
-}
-
 // The arctangent's table at k / 2^24.
 fn atan_at(k: u64) -> u32
     ensures { λ r. ⌜ (pos r ≡ atanAt k) × (r ≤ 16777216) ⌝ }
