@@ -81,7 +81,7 @@ impl Vec3 {
         }
     }
 
-    // Both of Rust's `k * v` and `v * k`: a product of two f32s doesn't depend on their order.
+    // Both of Rust's `k * v` and `v * k`: a product of two f32s doesn't depend on their order (`times-comm` in scalar/proofs/Commute.antt).
     pub fn scale(self, k: f32) -> Vec3
         ensures { λ r. ⌜ r ≡ scaleOf self k ⌝ }
     {
