@@ -5,7 +5,8 @@ use lib.Ieee.{Float, nan, binary32, div, eq, ofBits}
 use Rattle.scalar.specs.Arith.{f0}
 use Rattle.scalar.specs.Scalar.{absOf, isFinite}
 use Rattle.scalar.proofs.Sizes.{abs-abs, abs-finite, abs-is-zero}
-use Rattle.trig.specs.Arctangent.{Point, angleOf, atan2Of}
+use Rattle.trig.specs.Arctangent.{angleOf, atan2Of}
+use Rattle.trig.specs.Parts.{Point}
 
 -- the program's NaN
 pub undefined : div binary32 f0 f0 ≡ nan

@@ -13,8 +13,8 @@ use Rattle.series.specs.Tables.{sines}
 use Rattle.series.proofs.SineNodes.{above, below}
 use Rattle.series.proofs.SineTable.{Line}
 use Rattle.series.proofs.Numbers.{lt-or-le}
-use Rattle.trig.specs.Interpolation.{signed}
 use Rattle.trig.specs.Sine.{carried}
+use Rattle.trig.specs.Parts.{signed}
 use Rattle.trig.proofs.InterpolatedSizes.{lineSize, Off, off}
 use Rattle.trig.proofs.CarriedTable.{first, second, third, fourth, sine-small}
 

@@ -19,9 +19,10 @@ use Rattle.series.proofs.SineNodes.{above, below}
 use Rattle.series.proofs.SineTable.{Line, turned}
 use Rattle.series.proofs.SineTableBrackets.{sine-within, cosine-within}
 use Rattle.series.proofs.AlternatingSums.{Bracketed, bracketed-same, sin-scales, cos-scales}
-use Rattle.trig.specs.Interpolation.{overUnit, signed}
+use Rattle.trig.specs.Interpolation.{overUnit}
 use Rattle.trig.specs.Sine.{scaledOf, turnOf, stepOf, fractionOf, tableSine, sixteen, sixtyFourth}
 use Rattle.trig.specs.Accuracy.{SumsWithin}
+use Rattle.trig.specs.Parts.{signed}
 use Rattle.trig.proofs.ScaledFloor.{scaled-is, at-most-16}
 use Rattle.trig.proofs.InterpolatedSizes.{lineSize, line-signed, line-small}
 use Rattle.trig.proofs.WholeOverUnit.{whole-value}

@@ -1,6 +1,5 @@
 -- Sine and cosine of an f32 (document 01, 'Arithmetic beneath'). Definitions only.
-use Prim.Native.Nat.{ℕ, _+_, _-_, _*_, _/_, _%_, _^_, _≤_}
-use mathlib.Core.Path.{_≡_}
+use Prim.Native.Nat.{ℕ, _+_, _-_, _*_, _/_, _%_, _^_}
 use mathlib.Core.Bool.{not}
 use lib.Dec.{leb}
 use lib.ListN.{getD}
@@ -73,10 +72,3 @@ cosOf a =
     if not (le x sixteen) then nan
     else if lt x sixtyFourth then cosSmall a
     else tableSine (stepOf q + 1024) (fractionOf q)
-
--- the sizes that the quarter table gives at the fraction f on the way up from entry i, and on the way down from entry 1,024 - i
-pub record QuarterAt (i f rise fall : ℕ) : Type 0 where
-  pub rising : pos rise ≡ interpolated 65536 (pos (getD sines i 0)) (pos (getD sines (i + 1) 0)) f
-  pub falling : pos fall ≡ interpolated 65536 (pos (getD sines (1024 - i) 0)) (pos (getD sines (1023 - i) 0)) f
-  pub rise-fits : rise ≤ 16777216
-  pub fall-fits : fall ≤ 16777216
