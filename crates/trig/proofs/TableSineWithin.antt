@@ -20,7 +20,7 @@ use Rattle.series.proofs.SineTable.{Line, turned}
 use Rattle.series.proofs.SineTableBrackets.{sine-within, cosine-within}
 use Rattle.series.proofs.AlternatingSums.{Bracketed, bracketed-same, sin-scales, cos-scales}
 use Rattle.trig.specs.Interpolation.{overUnit}
-use Rattle.trig.specs.Sine.{scaledOf, turnOf, stepOf, fractionOf, tableSine, sixteen, sixtyFourth}
+use Rattle.trig.specs.Sine.{scaledOf, phaseOf, stepOf, fractionOf, tableSine, sixteen, sixtyFourth}
 use Rattle.trig.specs.Accuracy.{SumsWithin}
 use Rattle.trig.specs.Parts.{signed}
 use Rattle.trig.proofs.ScaledFloor.{scaled-is, at-most-16}
@@ -78,7 +78,7 @@ module _ (m : ℕ) (e : ℤ) (f : T (fits binary32 (fin false m e))) (h : T (le 
   y = g .C * (m * up e)
 
   abbrev turn : ℕ
-  turn = turnOf (scaledOf (fin false m e))
+  turn = phaseOf (scaledOf (fin false m e))
 
   y-fits : y ≤ 2 ^ 45
   y-fits = go (g .C) (m * up e) (down e) (at-most-16 m e h) (g .is)
@@ -87,7 +87,7 @@ module _ (m : ℕ) (e : ℤ) (f : T (fits binary32 (fin false m e))) (h : T (le 
       go C p q h e = omega (arith, mul-le-mul-left C h)
 
   same-turn : turned y ≡ turn
-  same-turn = ap turnOf (div-same (g .C * (m * up e)) (2 ^ 17) (m * up e * 2 ^ 24) (down e) (lit< tt) (down-pos e) (go (g .C) (m * up e) (down e) (g .is)) ∙ sym (scaled-is m e f h))
+  same-turn = ap phaseOf (div-same (g .C * (m * up e)) (2 ^ 17) (m * up e * 2 ^ 24) (down e) (lit< tt) (down-pos e) (go (g .C) (m * up e) (down e) (g .is)) ∙ sym (scaled-is m e f h))
     where
       go : (C p q : ℕ) → C * q ≡ 2 ^ 41 → C * p * q ≡ p * 2 ^ 24 * 2 ^ 17
       go C p q e = omega (arith, ap (λ (z : ℕ). p * z) e)

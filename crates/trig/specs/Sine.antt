@@ -33,8 +33,8 @@ unfoldable pub scaledOf : Float → ℕ
 scaledOf x = toUnsigned 64 (x ⊗ unit)
 
 -- q = floor(k·2^33 / 3373259426): 65,536 to a step, 4,096 steps to a whole turn
-abbrev pub turnOf : ℕ → ℕ
-turnOf k = k * 2 ^ 33 / 3373259426
+abbrev pub phaseOf : ℕ → ℕ
+phaseOf k = k * 2 ^ 33 / 3373259426
 
 abbrev pub stepOf : ℕ → ℕ
 stepOf q = q / 65536 % 4096
@@ -57,7 +57,7 @@ tableSine s f = overUnit (interpolated 65536 (carried s) (carried (s + 1)) f)
 unfoldable pub sinOf : Float → Float
 sinOf a =
     let x = absOf a in
-    let q = turnOf (scaledOf x) in
+    let q = phaseOf (scaledOf x) in
     let r = tableSine (stepOf q) (fractionOf q) in
     if not (le x sixteen) then nan
     else if lt x sixtyFourth then sinSmall a
@@ -68,7 +68,7 @@ sinOf a =
 unfoldable pub cosOf : Float → Float
 cosOf a =
     let x = absOf a in
-    let q = turnOf (scaledOf x) in
+    let q = phaseOf (scaledOf x) in
     if not (le x sixteen) then nan
     else if lt x sixtyFourth then cosSmall a
     else tableSine (stepOf q + 1024) (fractionOf q)

@@ -5,7 +5,7 @@ use Prim.Native.Nat.{ℕ, _+_, _*_, _/_}
 use lib.Dec.{T}
 use lib.Ieee.{Float, neg, lt, le}
 use Rattle.scalar.specs.Scalar.{absOf}
-use Rattle.trig.specs.Sine.{scaledOf, turnOf, stepOf, fractionOf, tableSine, sinOf, cosOf, sinSmall, cosSmall, sixteen, sixtyFourth}
+use Rattle.trig.specs.Sine.{scaledOf, phaseOf, stepOf, fractionOf, tableSine, sinOf, cosOf, sinSmall, cosSmall, sixteen, sixtyFourth}
 use Rattle.scalar.proofs.Sizes.{abs-abs}
 use Rattle.trig.proofs.Atan2Cases.{undefined}
 use borrow.Author.Needs.{needs}
@@ -20,8 +20,8 @@ small : (r a : Float) (b : Bool) → r ≡ absOf a → lt r sixtyFourth ≡ b �
 small r a b e h = sym (ap (λ (v : Float). lt v sixtyFourth) e) ∙ h
 
 -- the turn that the program has is the specification's
-turn : (k : ℕ) (r a : Float) → k ≡ scaledOf r → r ≡ absOf a → k * 8589934592 / 3373259426 ≡ turnOf (scaledOf (absOf a))
-turn k r a e h = ap turnOf (e ∙ ap scaledOf h)
+turn : (k : ℕ) (r a : Float) → k ≡ scaledOf r → r ≡ absOf a → k * 8589934592 / 3373259426 ≡ phaseOf (scaledOf (absOf a))
+turn k r a e h = ap phaseOf (e ∙ ap scaledOf h)
 
 returns : tie.Need-returns
 unfolding sinOf cosOf sinSmall cosSmall
