@@ -4,10 +4,10 @@ use mathlib.Core.Bool.{Bool, true, false}
 use Prim.Native.Nat.{ℕ, _+_, _*_, _/_}
 use lib.Dec.{T}
 use lib.Ieee.{Float, neg, lt, le}
+use Rattle.laws.proofs.Quotient.{zero-over-zero}
 use Rattle.scalar.specs.Scalar.{absOf}
 use Rattle.trig.specs.Sine.{scaledOf, phaseOf, stepOf, fractionOf, tableSine, sinOf, cosOf, sinSmall, cosSmall, sixteen, sixtyFourth}
 use Rattle.scalar.proofs.Sizes.{abs-abs}
-use Rattle.trig.proofs.Atan2Cases.{undefined}
 use borrow.Author.Needs.{needs}
 use Rattle.trig.proofs.sin_cos.Statement.{statement}
 use Rattle.trig.proofs.sin_cos.Tie as tie
@@ -65,7 +65,7 @@ unfolding sinOf cosOf
 returns-4 c =
     let n = c .before in
     let h = within (n .abs .result) (n .before .args .a) false (n .abs .ensures) (c .if1 .left) in
-    (rw (h, undefined), rw (h, undefined))
+    (rw (h, zero-over-zero), rw (h, zero-over-zero))
 
 pub sin-cos-spec : {M : Type 1} → statement M
 sin-cos-spec =
