@@ -21,11 +21,11 @@ fn replay_next() -> bool {
     }
     let y = number(word(record[0], record[1], record[2], record[3]));
     let x = number(word(record[4], record[5], record[6], record[7]));
-    let wave = sin_cos(y);
+    let pair = sin_cos(y);
     print_number(y);
     print_next(x);
-    print_next(wave.sin);
-    print_next(wave.cos);
+    print_next(pair.sin);
+    print_next(pair.cos);
     print_next(atan2(y, x));
     print_next(asin(y));
     print_line_end();

@@ -6,7 +6,7 @@ use native.Mathlib.Omega.{arith}
 use Rattle.series.specs.Series.{eulerDenominator, eulerSum}
 use Rattle.series.proofs.EulerGrowth.{ev, od, u, v, grows-at-most, grows-at-least, v-pow}
 use lib.Dec.{lit≤, lit<}
-use mathlib.Core.Logic.{_⊎_, inl, inr}
+use mathlib.Core.Logic.{inl, inr}
 use Rattle.series.proofs.EulerSums.{den-is, at-most-one, den-pos, tail-small, Sum}
 use Rattle.series.proofs.Numbers.{lt-or-le}
 
@@ -81,13 +81,6 @@ grows n p d q h pos r =
         finish B X Y Z t k a b c l = settle (d * q) (d * d) B X Y Z t k dq a b c l
 
 -- ---- from p / q to (p + d) / q, both at most 1
-pick : (a b : ℕ) → (a ≤ b) ⊎ (b ≤ a)
-pick a b = go (lt-or-le a b)
-  where
-    go : (a < b) ⊎ (b ≤ a) → (a ≤ b) ⊎ (b ≤ a)
-    go (inl h) = inl (le-of-lt h)
-    go (inr h) = inr h
-
 -- the sum grows by at most d / q + (d / q)²
 lipschitz : (n p d q : ℕ) → p + d ≤ q → 0 < q → q * q * (eulerSum n (p + d) q * eulerDenominator n p q) ≤ q * q * (eulerSum n p q * eulerDenominator n (p + d) q) + (d * d + d * q) * (eulerDenominator n p q * eulerDenominator n (p + d) q)
 lipschitz n p d q h pos = go (eulerSum n (p + d) q) (eulerDenominator n (p + d) q) (eulerSum n p q) (eulerDenominator n p q) (at-most-one (p + d) q n h (omega (arith, mul-pos pos pos))) (law-up n p d q (le-trans (mul-le-mul-right (p + d) (omega arith)) (mul-le-mul-left q h)))

@@ -1,21 +1,18 @@
 -- The cases of `atan2`: a number that is not finite, both zero, and the rest.
 use mathlib.Core.Path.{_≡_, refl, sym, ap, _∙_}
 use mathlib.Core.Bool.{Bool, true, false, not, _&&_}
-use lib.Ieee.{Float, nan, binary32, div, eq, ofBits}
+use lib.Ieee.{Float, binary32, div, eq}
+use Rattle.laws.proofs.Quotient.{zero-over-zero}
 use Rattle.scalar.specs.Arith.{f0}
 use Rattle.scalar.specs.Scalar.{absOf, isFinite}
 use Rattle.scalar.proofs.Sizes.{abs-abs, abs-finite, abs-is-zero}
-use Rattle.trig.specs.Arctangent.{Point, angleOf, atan2Of}
-
--- the program's NaN
-pub undefined : div binary32 f0 f0 ≡ nan
-unfolding div ofBits
-undefined = refl
+use Rattle.trig.specs.Arctangent.{angleOf, atan2Of}
+use Rattle.trig.specs.Parts.{Point}
 
 module _ (y x : Float) where
   pub not-finite : not (isFinite y && isFinite x) ≡ true → div binary32 f0 f0 ≡ atan2Of y x
   unfolding atan2Of
-  not-finite h = rw (h, undefined)
+  not-finite h = rw (h, zero-over-zero)
 
   module _ (h : not (isFinite y && isFinite x) ≡ false) where
     pub origin : (eq y f0 && eq x f0) ≡ true → f0 ≡ atan2Of y x

@@ -13,8 +13,8 @@ use Rattle.series.specs.Tables.{sines}
 use Rattle.series.proofs.SineNodes.{above, below}
 use Rattle.series.proofs.SineTable.{Line}
 use Rattle.series.proofs.Numbers.{lt-or-le}
-use Rattle.trig.specs.Interpolation.{signed}
 use Rattle.trig.specs.Sine.{carried}
+use Rattle.trig.specs.Parts.{signed}
 use Rattle.trig.proofs.InterpolatedSizes.{lineSize, Off, off}
 use Rattle.trig.proofs.CarriedTable.{first, second, third, fourth, sine-small}
 
@@ -100,21 +100,15 @@ minus-signed true n = sym (minus-neg n)
 minus-signed false n = refl
 
 -- ---- as the law of interpolation wants it
+not-over : (t u f m g : ℕ) → g * t + f * u ≤ 65536 * (64 * m) + 65536 * 65 → g * t + f * u + 65536 * (64 * 0) ≤ g * 0 + f * 0 + 65536 * (64 * m) + 65536 * 65
+not-over t u f m g h = omega arith
+
+not-under : (t u f m g : ℕ) → 65536 * (64 * m) ≤ g * t + f * u + 65536 * 65 → g * 0 + f * 0 + 65536 * (64 * m) ≤ g * t + f * u + 65536 * (64 * 0) + 65536 * 65
+not-under t u f m g h = omega arith
+
 off-line : (b : Bool) (t u f m : ℕ) → f < 65536 → Off t u f m → Line f (cond b 0 t) (cond b t 0) (cond b 0 u) (cond b u 0) (cond b 0 m) (cond b m 0)
-off-line false t u f m l h = record { high = go (65536 - f) (h .high); low = go' (65536 - f) (h .low) }
-  where
-    go : (g : ℕ) → g * t + f * u ≤ 65536 * (64 * m) + 65536 * 65 → g * t + f * u + 65536 * (64 * 0) ≤ g * 0 + f * 0 + 65536 * (64 * m) + 65536 * 65
-    go g h = omega arith
-
-    go' : (g : ℕ) → 65536 * (64 * m) ≤ g * t + f * u + 65536 * 65 → g * 0 + f * 0 + 65536 * (64 * m) ≤ g * t + f * u + 65536 * (64 * 0) + 65536 * 65
-    go' g h = omega arith
-off-line true t u f m l h = record { high = go (65536 - f) (h .low); low = go' (65536 - f) (h .high) }
-  where
-    go : (g : ℕ) → 65536 * (64 * m) ≤ g * t + f * u + 65536 * 65 → g * 0 + f * 0 + 65536 * (64 * m) ≤ g * t + f * u + 65536 * (64 * 0) + 65536 * 65
-    go g h = omega arith
-
-    go' : (g : ℕ) → g * t + f * u ≤ 65536 * (64 * m) + 65536 * 65 → g * t + f * u + 65536 * (64 * 0) ≤ g * 0 + f * 0 + 65536 * (64 * m) + 65536 * 65
-    go' g h = omega arith
+off-line false t u f m l h = record { high = not-over t u f m (65536 - f) (h .high); low = not-under t u f m (65536 - f) (h .low) }
+off-line true t u f m l h = record { high = not-under t u f m (65536 - f) (h .low); low = not-over t u f m (65536 - f) (h .high) }
 
 pub line-of : (n f : ℕ) → f < 65536 → let s = sided n in let m = lineSize 65536 (s .t) (s .u) f in
     Line f (above sines (n % 4096)) (below sines (n % 4096)) (above sines ((n + 1) % 4096)) (below sines ((n + 1) % 4096)) (cond (s .b) 0 m) (cond (s .b) m 0)

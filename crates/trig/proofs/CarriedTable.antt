@@ -12,8 +12,9 @@ use borrow.Author.Tests.{le-leb, lt-leb}
 use Rattle.series.specs.Tables.{sines, arcs}
 use Rattle.series.proofs.TableTest.{each}
 use Rattle.series.proofs.Numbers.{lt-or-le}
-use Rattle.trig.specs.Interpolation.{interpolated, overUnit, signed}
-use Rattle.trig.specs.Sine.{carried, tableSine, QuarterAt}
+use Rattle.trig.specs.Interpolation.{interpolated, overUnit}
+use Rattle.trig.specs.Sine.{carried, tableSine}
+use Rattle.trig.specs.Parts.{signed, QuarterAt}
 use Rattle.trig.proofs.InterpolatedSizes.{line-neg}
 
 -- ---- no entry is over 2^30

@@ -7,7 +7,8 @@ use native.Mathlib.Omega.{arith}
 use lib.Dec.{leb, lit<}
 use lib.IntN.{ℤ, pos, negsuc, negℤ, _+ℤ_, _-ℤ_, _*ℤ_, negℤ-negℤ, negℤ-+ℤ, +ℤ-comm, +ℤ-negℤ-cancel}
 use borrow.Author.Tests.{leb-true, leb-false}
-use Rattle.trig.specs.Interpolation.{towardZero, interpolated, signed}
+use Rattle.trig.specs.Interpolation.{towardZero, interpolated}
+use Rattle.trig.specs.Parts.{signed}
 
 -- the size of the line's value
 unfoldable pub lineSize : ℕ → ℕ → ℕ → ℕ → ℕ

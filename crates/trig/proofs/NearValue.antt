@@ -19,13 +19,17 @@ pub not-below : (x y d u v e : ℕ) → 2 ^ 20 * (y * e + u * d) ≤ 2 ^ 20 * (x
 unfolding NotAbove
 not-below x y d u v e h = omega arith
 
+-- a bound from above of a fraction is one from below of its negative
+turned : (x y d u v e : ℕ) → NotAbove u v e x y d → NotAbove y x d v u e
+unfolding NotAbove
+turned x y d u v e h = omega arith
+
 pub raise : (x y d u v u' v' e : ℕ) → u ≤ u' → v' ≤ v → NotAbove x y d u v e → NotAbove x y d u' v' e
 unfolding NotAbove
 raise x y d u v u' v' e h k l = omega (arith, mul-le-mul-right d h, mul-le-mul-right d k)
 
 pub lessen : (x y d u v u' v' e : ℕ) → u' ≤ u → v ≤ v' → NotAbove u v e x y d → NotAbove u' v' e x y d
-unfolding NotAbove
-lessen x y d u v u' v' e h k l = omega (arith, mul-le-mul-right d h, mul-le-mul-right d k)
+lessen x y d u v u' v' e h k l = turned v' u' e y x d (raise y x d v u v' u' e k h (turned x y d u v e l))
 
 -- ---- the same at another fraction of the same value
 module _ (D d x y x' y' u v e : ℕ) (p : 0 < D) (ex : x' * D ≡ x * d) (ey : y' * D ≡ y * d) where
@@ -39,18 +43,12 @@ module _ (D d x y x' y' u v e : ℕ) (p : 0 < D) (ex : x' * D ≡ x * d) (ey : y
       right : (k : ℕ) → d * (k * (y * e + u * D) + D * e) ≡ D * (k * (y' * e + u * d) + d * e)
       right k = omega (arith, ap (λ (z : ℕ). k * e * z) ey)
 
-  same-low : NotAbove u v e x y D → NotAbove u v e x' y' d
-  unfolding NotAbove
-  same-low h = le-of-mul-le-mul-left {k = D} (le-trans (le-of-eq (left (2 ^ 20))) (le-trans (mul-le-mul-left d h) (le-of-eq (right (2 ^ 20))))) p
-    where
-      left : (k : ℕ) → D * (k * (u * d + y' * e)) ≡ d * (k * (u * D + y * e))
-      left k = omega (arith, ap (λ (z : ℕ). k * e * z) ey)
-
-      right : (k : ℕ) → d * (k * (v * D + x * e) + e * D) ≡ D * (k * (v * d + x' * e) + e * d)
-      right k = omega (arith, ap (λ (z : ℕ). k * e * z) ex)
-
-  same-near : Near x y D u v e → Near x' y' d u v e
-  same-near n = record { high = same-high (n .high); low = same-low (n .low) }
+same-near : (D d x y x' y' u v e : ℕ) → 0 < D → x' * D ≡ x * d → y' * D ≡ y * d → Near x y D u v e → Near x' y' d u v e
+same-near D d x y x' y' u v e p ex ey n =
+    record {
+      high = same-high D d x y x' y' u v e p ex ey (n .high);
+      low = turned v u e y' x' d (same-high D d y x y' x' v u e p ey ex (turned x y D u v e (n .low)));
+    }
 
 none : (x y : ℕ) → 0 * x ≡ 0 * y
 none x y = omega arith
@@ -70,20 +68,18 @@ pub record Inside (R x y x' y' P M D : ℕ) : Type 0 where
   pub low : 2 ^ 20 * P * R + y * (2 ^ 20 * D) ≤ x * (2 ^ 20 * D) + (2 ^ 20 * M + D) * R
   pub high : 2 ^ 20 * M * R + y' * (2 ^ 20 * D) ≤ x' * (2 ^ 20 * D) + (2 ^ 20 * P + D) * R
 
+near-sum : (P M D u v e : ℕ) → 2 ^ 20 * D * v + 2 ^ 20 * P * e ≤ 2 ^ 20 * D * u + (2 ^ 20 * M + D) * e → NotAbove P M D u v e
+unfolding NotAbove
+near-sum P M D u v e h = omega arith
+
 module _ (term : ℕ → ℕ → ℕ → ℕ) (p q R x y x' y' P M D : ℕ) (pos : 0 < R) (h : Inside R x y x' y' P M D) where
   near-above : (n : ℕ) → AtLeast term R x y n p q → NotAbove P M D (added term n p q) (taken term n p q) (denominator n q)
-  unfolding AtLeast NotAbove
-  near-above n l = go (added term n p q) (taken term n p q) (denominator n q) (relax-least term p q R x y (2 ^ 20 * D) (2 ^ 20 * P) (2 ^ 20 * M + D) n pos (h .low) l)
-    where
-      go : (u v e : ℕ) → 2 ^ 20 * D * v + 2 ^ 20 * P * e ≤ 2 ^ 20 * D * u + (2 ^ 20 * M + D) * e → 2 ^ 20 * (P * e + v * D) ≤ 2 ^ 20 * (M * e + u * D) + D * e
-      go u v e h = omega arith
+  unfolding AtLeast
+  near-above n l = near-sum P M D (added term n p q) (taken term n p q) (denominator n q) (relax-least term p q R x y (2 ^ 20 * D) (2 ^ 20 * P) (2 ^ 20 * M + D) n pos (h .low) l)
 
   near-below : (n : ℕ) → AtMost term R x' y' n p q → NotAbove (added term n p q) (taken term n p q) (denominator n q) P M D
-  unfolding AtMost NotAbove
-  near-below n l = go (added term n p q) (taken term n p q) (denominator n q) (relax-most term p q R x' y' (2 ^ 20 * D) (2 ^ 20 * M) (2 ^ 20 * P + D) n pos (h .high) l)
-    where
-      go : (u v e : ℕ) → 2 ^ 20 * D * u + 2 ^ 20 * M * e ≤ 2 ^ 20 * D * v + (2 ^ 20 * P + D) * e → 2 ^ 20 * (u * D + M * e) ≤ 2 ^ 20 * (v * D + P * e) + e * D
-      go u v e h = omega arith
+  unfolding AtMost
+  near-below n l = let u = added term n p q in let v = taken term n p q in let e = denominator n q in turned v u e M P D (near-sum M P D v u e (relax-most term p q R x' y' (2 ^ 20 * D) (2 ^ 20 * M) (2 ^ 20 * P + D) n pos (h .high) l))
 
 pub sums-within : (term : ℕ → ℕ → ℕ → ℕ) (p q R x y x' y' : ℕ) (r : Float) (t : Bool) (N D : ℕ) → 0 < R → 0 < D → HasValue r t N D → Bracketed term R x y x' y' p q → Inside R x y x' y' (cond t 0 N) (cond t N 0) D → SumsWithin term p q r
 sums-within term p q R x y x' y' r t N D pos dp v b h i =

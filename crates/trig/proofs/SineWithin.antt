@@ -12,7 +12,7 @@ use borrow.Author.Tests.{lt-ltb, le-ltb}
 use Rattle.scalar.specs.Arith.{f0}
 use Rattle.series.specs.Series.{sinTerm, cosTerm}
 use Rattle.scalar.specs.Scalar.{absOf}
-use Rattle.trig.specs.Sine.{scaledOf, turnOf, stepOf, fractionOf, tableSine, sinSmall, cosSmall, sinOf, cosOf, sixteen, sixtyFourth}
+use Rattle.trig.specs.Sine.{scaledOf, phaseOf, stepOf, fractionOf, tableSine, sinSmall, cosSmall, sinOf, cosOf, sixteen, sixtyFourth}
 use Rattle.trig.specs.Accuracy.{SumsWithin, SinWithin, CosWithin}
 use Rattle.scalar.proofs.Sizes.{neg-neg}
 use Rattle.trig.proofs.SmallPowers.{small-size}
@@ -36,7 +36,7 @@ sign-test true m e h = lt-ltb 0 (m * up e * 1 + 0 * 1 * down e) (go (m * up e) (
 
 module _ (s : Bool) (m : ℕ) (e : ℤ) (f : T (fits binary32 (fin s m e))) (h : T (le (fin false m e) sixteen)) where
   abbrev wave : Float
-  wave = tableSine (stepOf (turnOf (scaledOf (fin false m e)))) (fractionOf (turnOf (scaledOf (fin false m e))))
+  wave = tableSine (stepOf (phaseOf (scaledOf (fin false m e)))) (fractionOf (phaseOf (scaledOf (fin false m e))))
 
   turned : (b : Bool) → b ≡ s → SumsWithin sinTerm (m * up e) (down e) wave → SumsWithin sinTerm (m * up e) (down e) (cond s (neg (cond b (neg wave) wave)) (cond b (neg wave) wave))
   turned b k n = subst (λ (r : Float). SumsWithin sinTerm (m * up e) (down e) r) (go s b k) n
@@ -51,7 +51,7 @@ module _ (s : Bool) (m : ℕ) (e : ℤ) (f : T (fits binary32 (fin s m e))) (h :
   sine-by true k = small.sine-near (m * up e) (down e) (small-size m e k) (fin s m e) s (refl, refl)
   sine-by false k = turned (lt (fin s m e) f0) (sign-test s m e (table.at-least m e k)) (table.sine-near m e (size-fits s m e f) h k)
 
-  cosine-by : (b : Bool) → lt (fin false m e) sixtyFourth ≡ b → SumsWithin cosTerm (m * up e) (down e) (cond b (cosSmall (fin s m e)) (tableSine (stepOf (turnOf (scaledOf (fin false m e))) + 1024) (fractionOf (turnOf (scaledOf (fin false m e))))))
+  cosine-by : (b : Bool) → lt (fin false m e) sixtyFourth ≡ b → SumsWithin cosTerm (m * up e) (down e) (cond b (cosSmall (fin s m e)) (tableSine (stepOf (phaseOf (scaledOf (fin false m e))) + 1024) (fractionOf (phaseOf (scaledOf (fin false m e))))))
   cosine-by true k = small.cosine-near (m * up e) (down e) (small-size m e k) (fin s m e) s (refl, refl)
   cosine-by false k = table.cosine-near m e (size-fits s m e f) h k
 

@@ -13,7 +13,7 @@ use borrow.Author.Tests.{ne-eqb, ltb-true, ltb-false}
 use Rattle.scalar.specs.Scalar.{absOf}
 use Rattle.scalar.proofs.Sizes.{Fraction, finite-size, abs-round}
 use Rattle.scalar.specs.Arith.{f0, f1}
-use Rattle.trig.specs.Arctangent.{Point}
+use Rattle.trig.specs.Parts.{Point}
 
 -- what `atan` asks
 abbrev AtMostOne : Float → Type 0

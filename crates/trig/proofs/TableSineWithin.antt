@@ -19,9 +19,10 @@ use Rattle.series.proofs.SineNodes.{above, below}
 use Rattle.series.proofs.SineTable.{Line, turned}
 use Rattle.series.proofs.SineTableBrackets.{sine-within, cosine-within}
 use Rattle.series.proofs.AlternatingSums.{Bracketed, bracketed-same, sin-scales, cos-scales}
-use Rattle.trig.specs.Interpolation.{overUnit, signed}
-use Rattle.trig.specs.Sine.{scaledOf, turnOf, stepOf, fractionOf, tableSine, sixteen, sixtyFourth}
+use Rattle.trig.specs.Interpolation.{overUnit}
+use Rattle.trig.specs.Sine.{scaledOf, phaseOf, stepOf, fractionOf, tableSine, sixteen, sixtyFourth}
 use Rattle.trig.specs.Accuracy.{SumsWithin}
+use Rattle.trig.specs.Parts.{signed}
 use Rattle.trig.proofs.ScaledFloor.{scaled-is, at-most-16}
 use Rattle.trig.proofs.InterpolatedSizes.{lineSize, line-signed, line-small}
 use Rattle.trig.proofs.WholeOverUnit.{whole-value}
@@ -77,7 +78,7 @@ module _ (m : ℕ) (e : ℤ) (f : T (fits binary32 (fin false m e))) (h : T (le 
   y = g .C * (m * up e)
 
   abbrev turn : ℕ
-  turn = turnOf (scaledOf (fin false m e))
+  turn = phaseOf (scaledOf (fin false m e))
 
   y-fits : y ≤ 2 ^ 45
   y-fits = go (g .C) (m * up e) (down e) (at-most-16 m e h) (g .is)
@@ -86,7 +87,7 @@ module _ (m : ℕ) (e : ℤ) (f : T (fits binary32 (fin false m e))) (h : T (le 
       go C p q h e = omega (arith, mul-le-mul-left C h)
 
   same-turn : turned y ≡ turn
-  same-turn = ap turnOf (div-same (g .C * (m * up e)) (2 ^ 17) (m * up e * 2 ^ 24) (down e) (lit< tt) (down-pos e) (go (g .C) (m * up e) (down e) (g .is)) ∙ sym (scaled-is m e f h))
+  same-turn = ap phaseOf (div-same (g .C * (m * up e)) (2 ^ 17) (m * up e * 2 ^ 24) (down e) (lit< tt) (down-pos e) (go (g .C) (m * up e) (down e) (g .is)) ∙ sym (scaled-is m e f h))
     where
       go : (C p q : ℕ) → C * q ≡ 2 ^ 41 → C * p * q ≡ p * 2 ^ 24 * 2 ^ 17
       go C p q e = omega (arith, ap (λ (z : ℕ). p * z) e)
@@ -104,24 +105,20 @@ module _ (m : ℕ) (e : ℤ) (f : T (fits binary32 (fin false m e))) (h : T (le 
       subst (λ (x : ℕ). Line (turn % 65536) (above sines x) (below sines x) (above sines j) (below sines j) (cond (sided n .b) 0 (size-at n)) (cond (sided n .b) (size-at n) 0)) a
       (subst (λ (x : ℕ). Line (turn % 65536) (above sines (n % 4096)) (below sines (n % 4096)) (above sines x) (below sines x) (cond (sided n .b) 0 (size-at n)) (cond (sided n .b) (size-at n) 0)) b (line-of n (turn % 65536) (mod-lt turn (lit< tt))))
 
-  pub sine-near : SumsWithin sinTerm (m * up e) (down e) (tableSine (stepOf turn) (fractionOf turn))
+  -- from step n on, at the table's entries i and j for the turn
+  near-at : (term : ℕ → ℕ → ℕ → ℕ) → ((C n p q : ℕ) → term n (C * p) (C * q) ≡ (C * C) ^ n * (C * C) * term n p q) → (n : ℕ) (i j : ℕ → ℕ)
+      → ((P M : ℕ) → (let q = turned y in Line (q % 65536) (above sines (i q)) (below sines (i q)) (above sines (j q)) (below sines (j q)) P M) → Bracketed term (2 ^ 24) P (M + 16) M (P + 16) y grid)
+      → n % 4096 ≡ i turn → (n + 1) % 4096 ≡ j turn → SumsWithin term (m * up e) (down e) (tableSine n (fractionOf turn))
   unfolding size-at
-  sine-near =
-      let n = stepOf turn in
-      let s = turn / 65536 in
-      subst (λ (r : Float). SumsWithin sinTerm (m * up e) (down e) r) (sym (wave-size n turn))
-      (whole-within sinTerm sin-scales (g .C) (m * up e) (down e) (g .positive) (g .is) (sided n .b) (size-at n) (small-at n)
-      (sine-within y (cond (sided n .b) 0 (size-at n)) (cond (sided n .b) (size-at n) 0) y-fits
-      (subst (λ (q : ℕ). Line (q % 65536) (above sines (q / 65536 % 4096)) (below sines (q / 65536 % 4096)) (above sines (suc (q / 65536) % 4096)) (below sines (suc (q / 65536) % 4096)) (cond (sided n .b) 0 (size-at n)) (cond (sided n .b) (size-at n) 0)) (sym same-turn)
-      (line-at n (s % 4096) (suc s % 4096) (omega arith) (omega arith)))))
+  near-at term scales n i j within a b =
+      let P = cond (sided n .b) 0 (size-at n) in
+      let M = cond (sided n .b) (size-at n) 0 in
+      subst (λ (r : Float). SumsWithin term (m * up e) (down e) r) (sym (wave-size n turn))
+      (whole-within term scales (g .C) (m * up e) (down e) (g .positive) (g .is) (sided n .b) (size-at n) (small-at n)
+      (within P M (subst (λ (q : ℕ). Line (q % 65536) (above sines (i q)) (below sines (i q)) (above sines (j q)) (below sines (j q)) P M) (sym same-turn) (line-at n (i turn) (j turn) a b))))
+
+  pub sine-near : SumsWithin sinTerm (m * up e) (down e) (tableSine (stepOf turn) (fractionOf turn))
+  sine-near = near-at sinTerm sin-scales (stepOf turn) (λ q. q / 65536 % 4096) (λ q. suc (q / 65536) % 4096) (λ P M. sine-within y P M y-fits) (omega arith) (omega arith)
 
   pub cosine-near : SumsWithin cosTerm (m * up e) (down e) (tableSine (stepOf turn + 1024) (fractionOf turn))
-  unfolding size-at
-  cosine-near =
-      let n = stepOf turn + 1024 in
-      let s = turn / 65536 in
-      subst (λ (r : Float). SumsWithin cosTerm (m * up e) (down e) r) (sym (wave-size n turn))
-      (whole-within cosTerm cos-scales (g .C) (m * up e) (down e) (g .positive) (g .is) (sided n .b) (size-at n) (small-at n)
-      (cosine-within y (cond (sided n .b) 0 (size-at n)) (cond (sided n .b) (size-at n) 0) y-fits
-      (subst (λ (q : ℕ). Line (q % 65536) (above sines ((q / 65536 + 1024) % 4096)) (below sines ((q / 65536 + 1024) % 4096)) (above sines ((suc (q / 65536) + 1024) % 4096)) (below sines ((suc (q / 65536) + 1024) % 4096)) (cond (sided n .b) 0 (size-at n)) (cond (sided n .b) (size-at n) 0)) (sym same-turn)
-      (line-at n ((s + 1024) % 4096) ((suc s + 1024) % 4096) (omega arith) (omega arith)))))
+  cosine-near = near-at cosTerm cos-scales (stepOf turn + 1024) (λ q. (q / 65536 + 1024) % 4096) (λ q. (suc (q / 65536) + 1024) % 4096) (λ P M. cosine-within y P M y-fits) (omega arith) (omega arith)

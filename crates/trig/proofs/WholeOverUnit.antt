@@ -12,7 +12,8 @@ use lib.Ieee.Exact.{HasValue, round-exact}
 use lib.Ieee.Back.{round-whole}
 use Rattle.laws.proofs.Rounding.{round-signed}
 use Rattle.laws.proofs.RoundedValues.{neg-value, div-value}
-use Rattle.trig.specs.Interpolation.{signed, unit, overUnit}
+use Rattle.trig.specs.Interpolation.{unit, overUnit}
+use Rattle.trig.specs.Parts.{signed}
 
 -- m / 2^24 rounds to itself
 fraction : (m : ℕ) → m ≤ 2 ^ 24 → HasValue (round binary32 false m (2 ^ 24)) false m (2 ^ 24)

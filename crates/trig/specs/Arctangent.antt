@@ -1,7 +1,6 @@
 -- The arctangent, `atan2` and the arc sine of f32s (document 01, 'Arithmetic beneath'). Definitions only.
 use Prim.Native.Nat.{ℕ, _+_, _/_, _%_, _^_}
-use mathlib.Core.Path.{_≡_}
-use mathlib.Core.Bool.{true, false, not, _&&_}
+use mathlib.Core.Bool.{not, _&&_}
 use lib.Dec.{ltb}
 use lib.ListN.{getD}
 use lib.IntN.{ℤ, pos}
@@ -57,11 +56,3 @@ atan2Of y x =
 
 unfoldable pub asinOf : Float → Float
 asinOf v = atan2Of v (rootOf ((f1 ⊖ v) ⊗ (f1 ⊕ v)))
-
--- h and w are sizes, finite and not both zero
-pub record Point (h w : Float) : Type 0 where
-  pub size-h : h ≡ absOf h
-  pub size-w : w ≡ absOf w
-  pub finite-h : isFinite h ≡ true
-  pub finite-w : isFinite w ≡ true
-  pub some : (eq h f0 && eq w f0) ≡ false

@@ -1,6 +1,5 @@
 -- Sine and cosine of an f32 (document 01, 'Arithmetic beneath'). Definitions only.
-use Prim.Native.Nat.{ℕ, _+_, _-_, _*_, _/_, _%_, _^_, _≤_}
-use mathlib.Core.Path.{_≡_}
+use Prim.Native.Nat.{ℕ, _+_, _-_, _*_, _/_, _%_, _^_}
 use mathlib.Core.Bool.{not}
 use lib.Dec.{leb}
 use lib.ListN.{getD}
@@ -34,8 +33,8 @@ unfoldable pub scaledOf : Float → ℕ
 scaledOf x = toUnsigned 64 (x ⊗ unit)
 
 -- q = floor(k·2^33 / 3373259426): 65,536 to a step, 4,096 steps to a whole turn
-abbrev pub turnOf : ℕ → ℕ
-turnOf k = k * 2 ^ 33 / 3373259426
+abbrev pub phaseOf : ℕ → ℕ
+phaseOf k = k * 2 ^ 33 / 3373259426
 
 abbrev pub stepOf : ℕ → ℕ
 stepOf q = q / 65536 % 4096
@@ -58,7 +57,7 @@ tableSine s f = overUnit (interpolated 65536 (carried s) (carried (s + 1)) f)
 unfoldable pub sinOf : Float → Float
 sinOf a =
     let x = absOf a in
-    let q = turnOf (scaledOf x) in
+    let q = phaseOf (scaledOf x) in
     let r = tableSine (stepOf q) (fractionOf q) in
     if not (le x sixteen) then nan
     else if lt x sixtyFourth then sinSmall a
@@ -69,14 +68,7 @@ sinOf a =
 unfoldable pub cosOf : Float → Float
 cosOf a =
     let x = absOf a in
-    let q = turnOf (scaledOf x) in
+    let q = phaseOf (scaledOf x) in
     if not (le x sixteen) then nan
     else if lt x sixtyFourth then cosSmall a
     else tableSine (stepOf q + 1024) (fractionOf q)
-
--- the sizes that the quarter table gives at the fraction f on the way up from entry i, and on the way down from entry 1,024 - i
-pub record QuarterAt (i f rise fall : ℕ) : Type 0 where
-  pub rising : pos rise ≡ interpolated 65536 (pos (getD sines i 0)) (pos (getD sines (i + 1) 0)) f
-  pub falling : pos fall ≡ interpolated 65536 (pos (getD sines (1024 - i) 0)) (pos (getD sines (1023 - i) 0)) f
-  pub rise-fits : rise ≤ 16777216
-  pub fall-fits : fall ≤ 16777216

@@ -7,12 +7,15 @@ ghost use lib.IntN.{pos};
 ghost use lib.Ieee.{le, eq};
 ghost use Rattle.scalar.specs.Arith.{f0, f1};
 ghost use Rattle.scalar.specs.Scalar.{absOf, isFinite};
-ghost use Rattle.trig.specs.Interpolation.{interpolated, signed, overUnit};
-ghost use Rattle.trig.specs.Sine.{sixteen, scaledOf, stepOf, fractionOf, tableSine, sinOf, cosOf, QuarterAt};
-ghost use Rattle.trig.specs.Arctangent.{atanAt, atanOf, Point, quadrantAngle, halfPlaneAngle, angleOf, atan2Of, asinOf};
+ghost use Rattle.trig.specs.Interpolation.{interpolated, overUnit};
+ghost use Rattle.trig.specs.Sine.{sixteen, scaledOf, stepOf, fractionOf, tableSine, sinOf, cosOf};
+ghost use Rattle.trig.specs.Arctangent.{atanAt, atanOf, quadrantAngle, halfPlaneAngle, angleOf, atan2Of, asinOf};
+ghost use Rattle.trig.specs.Parts.{signed, QuarterAt, Point};
+use root::sqrt;
 use scalar::PI;
 use scalar::abs;
 use scalar::is_finite;
+use scalar::is_sign_negative;
 use trig_tables::arctangent_at;
 use trig_tables::sine_at;
 
@@ -119,6 +122,7 @@ pub fn sin_cos(a: f32) -> SinCos
                 cos: 1.0 - a * a / 2.0,
             };
         }
+        // In 65,536ths of a step of π/2048: 8589934592 is 2^33, and 3373259426 is π·2^30 to the nearest.
         let w = table_sin_cos(scaled(x) * 8589934592 / 3373259426);
         if a < 0.0 {
             return SinCos {
@@ -132,18 +136,6 @@ pub fn sin_cos(a: f32) -> SinCos
         sin: 0.0 / 0.0,
         cos: 0.0 / 0.0,
     }
-}
-
-pub fn sin(a: f32) -> f32
-    ensures { λ r. ⌜ r ≡ sinOf a ⌝ }
-{
-    sin_cos(a).sin
-}
-
-pub fn cos(a: f32) -> f32
-    ensures { λ r. ⌜ r ≡ cosOf a ⌝ }
-{
-    sin_cos(a).cos
 }
 
 // The arctangent's table at k / 2^24.
@@ -197,7 +189,7 @@ fn angle(y: f32, x: f32) -> f32
     ensures { λ r. ⌜ r ≡ angleOf y x ⌝ }
 {
     let r = half_plane_angle(abs(y), x);
-    if scalar::is_sign_negative(y) { -r } else { r }
+    if is_sign_negative(y) { -r } else { r }
 }
 
 fn both_finite(y: f32, x: f32) -> bool
@@ -233,5 +225,5 @@ pub fn atan2(y: f32, x: f32) -> f32
 pub fn asin(v: f32) -> f32
     ensures { λ r. ⌜ r ≡ asinOf v ⌝ }
 {
-    atan2(v, root::sqrt((1.0 - v) * (1.0 + v)))
+    atan2(v, sqrt((1.0 - v) * (1.0 + v)))
 }

@@ -81,7 +81,7 @@ impl Vec3 {
         }
     }
 
-    // Both of Rust's `k * v` and `v * k`: a product of two f32s doesn't depend on their order.
+    // Both of Rust's `k * v` and `v * k`: a product of two f32s doesn't depend on their order (`times-comm` in scalar/proofs/Commute.antt).
     pub fn scale(self, k: f32) -> Vec3
         ensures { λ r. ⌜ r ≡ scaleOf self k ⌝ }
     {
@@ -285,12 +285,12 @@ impl Quat {
     pub fn from_axis_angle(axis: Vec3, angle: f32) -> Quat
         ensures { λ r. ⌜ r ≡ ofAxisAngle axis angle ⌝ }
     {
-        let wave = sin_cos(angle * 0.5);
+        let half_angle = sin_cos(angle * 0.5);
         Quat {
-            x: axis.x * wave.sin,
-            y: axis.y * wave.sin,
-            z: axis.z * wave.sin,
-            w: wave.cos,
+            x: axis.x * half_angle.sin,
+            y: axis.y * half_angle.sin,
+            z: axis.z * half_angle.sin,
+            w: half_angle.cos,
         }
     }
 

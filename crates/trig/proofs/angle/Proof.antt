@@ -2,7 +2,8 @@
 use mathlib.Core.Path.{sym, ap, _∙_, subst}
 use lib.Ieee.{Float, neg}
 use Rattle.scalar.specs.Scalar.{absOf}
-use Rattle.trig.specs.Arctangent.{Point, halfPlaneAngle, angleOf}
+use Rattle.trig.specs.Arctangent.{halfPlaneAngle, angleOf}
+use Rattle.trig.specs.Parts.{Point}
 use Rattle.trig.proofs.angle.Statement.{statement}
 use Rattle.trig.proofs.angle.Tie as tie
 

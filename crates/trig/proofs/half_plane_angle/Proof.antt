@@ -2,7 +2,8 @@
 use mathlib.Core.Path.{sym, ap, _∙_, subst}
 use lib.Ieee.{Float, binary32, sub}
 use Rattle.scalar.specs.Arith.{pi}
-use Rattle.trig.specs.Arctangent.{Point, quadrantAngle, halfPlaneAngle}
+use Rattle.trig.specs.Arctangent.{quadrantAngle, halfPlaneAngle}
+use Rattle.trig.specs.Parts.{Point}
 use Rattle.trig.proofs.half_plane_angle.Statement.{statement}
 use Rattle.trig.proofs.half_plane_angle.Tie as tie
 

@@ -7,7 +7,8 @@ use lib.Dec.{T}
 use lib.IntN.{pos}
 use lib.Ieee.{neg, inFloat}
 use borrow.Author.Tests.{le-leb}
-use Rattle.trig.specs.Interpolation.{overUnit, signed}
+use Rattle.trig.specs.Interpolation.{overUnit}
+use Rattle.trig.specs.Parts.{signed}
 use Rattle.trig.proofs.WholeOverUnit.{minus-unit}
 use Rattle.trig.proofs.over_unit.Statement.{statement}
 use Rattle.trig.proofs.over_unit.Tie as tie

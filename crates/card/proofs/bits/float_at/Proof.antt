@@ -1,6 +1,7 @@
 use lib.Ieee.{binary32, nanBits}
 use Rattle.card.proofs.Bools.{failed}
-use Rattle.card.proofs.Floats.{nan-of, zero-zero}
+use Rattle.laws.proofs.Quotient.{zero-over-zero}
+use Rattle.card.proofs.Floats.{nan-of}
 use Rattle.card.specs.Bits.{floatAt}
 use borrow.Author.Needs.{needs}
 use Rattle.card.proofs.bits.float_at.Statement.{statement}
@@ -8,7 +9,7 @@ use Rattle.card.proofs.bits.float_at.Tie as tie
 
 returns : tie.Need-returns
 unfolding floatAt
-returns c = cc (zero-zero, nan-of (c .before .before .bits32-at .result) (cc))
+returns c = cc (zero-over-zero, nan-of (c .before .before .bits32-at .result) (cc))
 
 float-from-bits-result : tie.Need-float-from-bits-result
 float-from-bits-result c = failed (nanBits binary32 (c .before .before .bits32-at .result)) (cc)
