@@ -1,5 +1,5 @@
 -- The state: 13 numbers for each body, then 12 for each joint; its start, and refusals 11 and 12. Document 01, 'The card' and 'Turned back'.
-use Prim.Native.Nat.{ℕ, zero, suc, _+_, _*_, _%_}
+use Prim.Native.Nat.{ℕ, zero, suc, _*_, _%_}
 use mathlib.Core.Bool.{Bool, not, _&&_}
 use mathlib.Core.List.{List, [], _∷_, _++_}
 use lib.ListN.{length, getD, replicate}
