@@ -6,13 +6,14 @@ use lib.ListN.{length}
 use lib.Dec.{leb, ltb, eqb}
 use lib.Ieee.{Float, lt}
 use Rattle.scalar.specs.Arith.{_⊕_, _⊗_, f32}
+use Rattle.scalar.specs.Scalar.{outside}
 use Rattle.vector.specs.Vector.{lengthSquaredOf}
 use Rattle.vector.specs.declared.Vec3.{Vec3}
 use Rattle.vector.specs.declared.Quat.{Quat}
 use Rattle.card.specs.Layout.{maxBodies, maxJoints, minRate, maxRate, headerBytes, bodyPlace, jointPlace, headerFloats, bodyFloats, jointFloats, headerFloatCount, bodyFloatCount, jointFloatCount, rotationFloat, basis1Float, basis2Float, axisFloat, limit1Float, limit2Float}
 use Rattle.card.specs.Bits.{bits16, bits24, bits32, floatAt, vec3At, quatAt}
 use Rattle.card.specs.Loop.{anyTo}
-use Rattle.card.specs.Fields.{kindOf, allows, headerFields, bodyFields, jointFields, hasMotor, unusedBits, floatOf, outside, outOf}
+use Rattle.card.specs.Fields.{kindOf, allows, headerFields, bodyFields, jointFields, hasMotor, unusedBits, floatOf, outOf}
 use Rattle.card.specs.Records.{headerAt, bodyBits, jointBits}
 use Rattle.card.specs.declared.records.Header.{Header}
 use Rattle.card.specs.declared.records.JointBits.{JointBits}

@@ -12,7 +12,6 @@ use crate::bits::quat_at;
 use crate::bits::vec3_at;
 use crate::fields::JointKind;
 use crate::fields::kind_of;
-use crate::fields::outside;
 use crate::float_checks::FloatCheck;
 use crate::float_checks::body_floats_fault;
 use crate::float_checks::header_floats_fault;
@@ -36,6 +35,7 @@ use crate::records::JointBits;
 use crate::records::body_bits;
 use crate::records::header_at;
 use crate::records::joint_bits;
+use scalar::outside;
 use vector::Quat;
 use vector::Vec3;
 

@@ -6,11 +6,11 @@ use lib.ListN.{length, getD, replicate}
 use lib.Dec.{eqb, ltb}
 use lib.Ieee.{Float, nan, neg}
 use Rattle.scalar.specs.Arith.{if_then_else_, f32, f0, largest}
+use Rattle.scalar.specs.Scalar.{outside}
 use Rattle.vector.specs.declared.Vec3.{Vec3}
 use Rattle.vector.specs.declared.Quat.{Quat}
 use Rattle.card.specs.Layout.{bodyNumbers, jointNumbers, stateLength}
 use Rattle.card.specs.Loop.{anyTo}
-use Rattle.card.specs.Fields.{outside}
 use Rattle.card.specs.Records.{headerAt}
 use Rattle.card.specs.Checks.{Refusal, refuse, firstOf, checkOf}
 use Rattle.card.specs.declared.records.Header.{Header}

@@ -13,12 +13,12 @@ ghost use Rattle.card_records.specs.Parts.{overAt};
 use crate::body::body_at;
 use card::answer::Answer;
 use card::checks::check;
-use card::fields::outside;
 use card::layout::BODY_NUMBERS;
 use card::layout::JOINT_NUMBERS;
 use card::records::Header;
 use card::records::header_at;
 use scalar::MAX;
+use scalar::outside;
 use vector::Quat;
 use vector::Vec3;
 
