@@ -5,10 +5,11 @@ use mathlib.Core.List.{List, [], _∷_, _++_}
 use lib.ListN.{length, getD, replicate}
 use lib.Dec.{eqb, ltb}
 use lib.Ieee.{Float, nan, neg}
-use Rattle.scalar.specs.Arith.{if_then_else_, f32, f0, largest}
+use Rattle.scalar.specs.Arith.{if_then_else_, f0, largest}
 use Rattle.scalar.specs.Scalar.{outside}
 use Rattle.vector.specs.declared.Vec3.{Vec3}
 use Rattle.vector.specs.declared.Quat.{Quat}
+use Rattle.solver_body.specs.Body.{positionBound}
 use Rattle.card.specs.Layout.{bodyNumbers, jointNumbers, stateLength}
 use Rattle.card.specs.Loop.{anyTo}
 use Rattle.card.specs.Records.{headerAt}
@@ -40,10 +41,6 @@ unfoldable pub startState : List ℕ → Header → List Float
 startState card h = startTo card (h .bodies) ++ replicate (jointNumbers * h .joints) f0
 
 -- ---- refusals 11 and 12
-
--- 4,096
-abbrev pub positionBound : Float
-positionBound = f32 0x4580_0000
 
 -- the bound of number n: the first three of a body are its position
 unfoldable pub boundOf : ℕ → ℕ → Float

@@ -19,6 +19,7 @@ use card::records::Header;
 use card::records::header_at;
 use scalar::MAX;
 use scalar::outside;
+use solver_body::POSITION_BOUND;
 use vector::Quat;
 use vector::Vec3;
 
@@ -136,7 +137,7 @@ fn any_number_fault(bodies: usize, state: &[f32]) -> bool
     let mut i = 0;
     while i < bodies {
         let at = BODY_NUMBERS * i;
-        fault = fault | any_over(state, at, 3, 4096.0) | any_over(state, at + 3, 10, MAX);
+        fault = fault | any_over(state, at, 3, POSITION_BOUND) | any_over(state, at + 3, 10, MAX);
         i += 1;
     }
     let at = BODY_NUMBERS * bodies;

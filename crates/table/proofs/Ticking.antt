@@ -7,10 +7,10 @@ use mathlib.Core.List.{List, [], _∷_}
 use lib.ListN.{length, take}
 use lib.Seq.{sets}
 use lib.Dec.{T, eqb, eqb→eq}
-use lib.Ieee.{Float, lt, ofBits}
+use lib.Ieee.{Float, neg, le, lt, eq, ofBits}
 use borrow.Author.Tests.{eq-eqb, ne-eqb}
 use Rattle.scalar.specs.Arith.{if_then_else_}
-use Rattle.scalar.specs.Scalar.{isFinite}
+use Rattle.scalar.specs.Scalar.{isFinite, outside}
 use Rattle.tick.specs.Finite.{finite3, finite4}
 use Rattle.tick.specs.Body.{restingBody, tooFar, bodyFault}
 use Rattle.tick.specs.Joint.{noTotals}
@@ -36,7 +36,7 @@ use Rattle.table.proofs.Ends.{made}
 -- ---- the new numbers
 
 resting-fine : bodyFault restingBody ≡ false
-unfolding bodyFault finite3 finite4 isFinite tooFar lt ofBits
+unfolding bodyFault finite3 finite4 isFinite tooFar outside neg le lt eq ofBits
 resting-fine = refl
 
 fault-as : (a : Bool) (b : BodyState) → bodyFault (if a then restingBody else b) ≡ (not a && bodyFault b)
