@@ -10,6 +10,7 @@ use lib.Ieee.{Float, le, lt}
 use borrow.Author.Tests.{ltb-false, leb-true, leb-false, eqb-true, eqb-false, not-false}
 use Rattle.scalar.specs.Arith.{f32}
 use Rattle.vector.specs.Vector.{lengthSquaredOf}
+use Rattle.vector.specs.Rotation.{normSquaredOf}
 use Rattle.vector.specs.declared.Vec3.{Vec3}
 use Rattle.vector.specs.declared.Quat.{Quat}
 use Rattle.laws.proofs.Place.{not-lt→le}
@@ -19,7 +20,7 @@ use Rattle.card.specs.Bits.{floatAt, vec3At, quatAt}
 use Rattle.card.specs.Loop.{anyTo}
 use Rattle.card.specs.Fields.{kinds, kindOf, unknownKind, floatIn, floatOf}
 use Rattle.card.specs.Records.{headerAt, bodyBits, jointBits}
-use Rattle.card.specs.Checks.{countsFault, rateFault, bitsFit, jointBitsFault, outOfRange, limitFault, offUnit, squares, axisFault, rotationFault, basesFault, normsFault, pairFault, headerFault, bodyFault, jointFault, recordFault, Refusal, refuse, firstOf, cardChecks, checkOf}
+use Rattle.card.specs.Checks.{countsFault, rateFault, bitsFit, jointBitsFault, outOfRange, limitFault, offUnit, axisFault, rotationFault, basesFault, normsFault, pairFault, headerFault, bodyFault, jointFault, recordFault, Refusal, refuse, firstOf, cardChecks, checkOf}
 use Rattle.card.specs.Accepted.{InRange, NearOne, AcceptedBody, AcceptedJoint, Accepted}
 use Rattle.card.specs.declared.records.JointBits.{JointBits}
 use Rattle.card.specs.declared.fields.JointKind.{JointKind}
@@ -81,9 +82,9 @@ near-one : (s : Float) → offUnit s ≡ false → NearOne s
 unfolding offUnit
 near-one s e = let b = inside s (f32 0x3f7f_c000) (f32 0x3f80_2000) e in record { low = b .0; high = b .1 }
 
-rotation-unit : (q : Quat) → rotationFault q ≡ false → NearOne (squares q)
+rotation-unit : (q : Quat) → rotationFault q ≡ false → NearOne (normSquaredOf q)
 unfolding rotationFault
-rotation-unit q e = near-one (squares q) e
+rotation-unit q e = near-one (normSquaredOf q) e
 
 axis-unit : (v : Vec3) → axisFault v ≡ false → NearOne (lengthSquaredOf v)
 unfolding axisFault
@@ -94,11 +95,11 @@ module _ (card : List ℕ) (k : JointKind) (floats : ℕ) (e : normsFault card k
   unfolding normsFault
   bases-passed = or-left (basesFault card (k .bases) floats) _ e
 
-  basis1-unit : k .bases ≡ true → NearOne (squares (quatAt card (floats + 4 * basis1Float)))
+  basis1-unit : k .bases ≡ true → NearOne (normSquaredOf (quatAt card (floats + 4 * basis1Float)))
   unfolding basesFault
   basis1-unit h = rotation-unit _ (or-left _ _ (and-right (k .bases) _ bases-passed h))
 
-  basis2-unit : k .bases ≡ true → NearOne (squares (quatAt card (floats + 4 * basis2Float)))
+  basis2-unit : k .bases ≡ true → NearOne (normSquaredOf (quatAt card (floats + 4 * basis2Float)))
   unfolding basesFault
   basis2-unit h = rotation-unit _ (or-right (rotationFault (quatAt card (floats + 4 * basis1Float))) _ (and-right (k .bases) _ bases-passed h))
 

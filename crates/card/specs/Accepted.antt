@@ -9,11 +9,12 @@ use lib.Ieee.{Float, binary32, fits, le}
 use lib.Ieee.Scale.{finite}
 use Rattle.scalar.specs.Arith.{f32}
 use Rattle.vector.specs.Vector.{lengthSquaredOf}
+use Rattle.vector.specs.Rotation.{normSquaredOf}
 use Rattle.card.specs.Layout.{maxBodies, maxJoints, minRate, maxRate, jointPlace, bodyFloats, jointFloats, bodyFloatCount, jointFloatCount, rotationFloat, basis1Float, basis2Float, axisFloat, limit1Float, limit2Float}
 use Rattle.card.specs.Bits.{floatAt, vec3At, quatAt}
 use Rattle.card.specs.Fields.{kinds, kindOf, floatOf, least, greatest}
 use Rattle.card.specs.Records.{headerAt, bodyBits, jointBits}
-use Rattle.card.specs.Checks.{bitsFit, squares}
+use Rattle.card.specs.Checks.{bitsFit}
 use Rattle.card.specs.declared.records.JointBits.{JointBits}
 use Rattle.card.specs.declared.fields.Range.{Range}
 use Rattle.card.specs.declared.fields.Range.the-variants.{Bounded, NotNegative}
@@ -32,7 +33,7 @@ pub record NearOne (s : Float) : Type 0 where
 
 pub record AcceptedBody (card : List ℕ) (i : ℕ) : Type 0 where
   pub floats : (n : ℕ) → n < bodyFloatCount → InRange (floatOf (BodyForm (bodyBits card i)) n .range) (floatAt card (bodyFloats i + 4 * n))
-  pub rotation : NearOne (squares (quatAt card (bodyFloats i + 4 * rotationFloat)))
+  pub rotation : NearOne (normSquaredOf (quatAt card (bodyFloats i + 4 * rotationFloat)))
 
 module _ (card : List ℕ) (bodies j : ℕ) where
   abbrev bits : JointBits
@@ -47,8 +48,8 @@ module _ (card : List ℕ) (bodies j : ℕ) where
     pub floats : (n : ℕ) → n < jointFloatCount → InRange (floatOf (JointForm bits) n .range) (float n)
     pub limit1 : T (le (float limit1Float) (float (limit1Float + 1)))
     pub limit2 : T (le (float limit2Float) (float (limit2Float + 1)))
-    pub basis1 : kindOf (bits .kind) .bases ≡ true → NearOne (squares (quatAt card (jointFloats bodies j + 4 * basis1Float)))
-    pub basis2 : kindOf (bits .kind) .bases ≡ true → NearOne (squares (quatAt card (jointFloats bodies j + 4 * basis2Float)))
+    pub basis1 : kindOf (bits .kind) .bases ≡ true → NearOne (normSquaredOf (quatAt card (jointFloats bodies j + 4 * basis1Float)))
+    pub basis2 : kindOf (bits .kind) .bases ≡ true → NearOne (normSquaredOf (quatAt card (jointFloats bodies j + 4 * basis2Float)))
     pub axis : kindOf (bits .kind) .axis ≡ true → NearOne (lengthSquaredOf (vec3At card (jointFloats bodies j + 4 * axisFloat)))
     pub body1 : bits .body1 < bodies
     pub body2 : bits .body2 < bodies

@@ -140,7 +140,7 @@ fn axis_fault(v: Vec3) -> bool
 fn rotation_fault(q: Quat) -> bool
     ensures { λ r. ⌜ r ≡ rotationFault q ⌝ }
 {
-    off_unit(q.x * q.x + q.y * q.y + q.z * q.z + q.w * q.w)
+    off_unit(q.length_squared())
 }
 
 fn bases_fault(card: &[u8], used: bool, floats: usize) -> bool
