@@ -50,9 +50,12 @@ boundOf bodies n = if ltb n (bodyNumbers * bodies) && ltb (n % bodyNumbers) 3 th
 unfoldable pub numberFault : ℕ → List Float → ℕ → Bool
 numberFault bodies s n = let m = boundOf bodies n in outside (getD s n nan) (neg m) m
 
+abbrev pub lengthFault : ℕ → ℕ → List Float → Bool
+lengthFault bodies joints s = not (eqb (length s) (stateLength bodies joints))
+
 abbrev pub stateChecks : ℕ → ℕ → List Float → List Refusal
 stateChecks bodies joints s =
-    refuse 11 (not (eqb (length s) (stateLength bodies joints)))
+    refuse 11 (lengthFault bodies joints s)
     ∷ refuse 12 (anyTo (numberFault bodies s) (length s))
     ∷ []
 
@@ -80,7 +83,7 @@ answered n s = record { number = n; state = s }
 
 unfoldable pub startAccepted : List ℕ → Header → List Float → Answered
 startAccepted card h s =
-    if eqb (length s) (stateLength (h .bodies) (h .joints)) then answered 0 (startState card h) else answered 11 s
+    if lengthFault (h .bodies) (h .joints) s then answered 11 s else answered 0 (startState card h)
 
 -- the start state, or the first of the refusals 1 to 11 that applies and the state as it was
 unfoldable pub startOf : List ℕ → List Float → Answered

@@ -16,7 +16,7 @@ use Rattle.tick.specs.Body.{restingBody, tooFar, bodyFault}
 use Rattle.tick.specs.Joint.{noTotals}
 use Rattle.tick.specs.declared.body.BodyState.{BodyState}
 use Rattle.tick.specs.declared.joint.JointTotals.{JointTotals}
-use Rattle.card.specs.Layout.{stateLength}
+use Rattle.card.specs.Layout.{totalsPlace, stateLength}
 use Rattle.card.specs.Loop.{anyTo}
 use Rattle.card.proofs.Loops.{any-some}
 use Rattle.card.specs.Records.{headerAt}
@@ -26,7 +26,7 @@ use Rattle.card.specs.declared.records.Header.{Header}
 use Rattle.card_records.specs.State.{numberFault, stateFault, orElse, checkStateOf, Answered, answered}
 use Rattle.card_records.proofs.Starting.{state-refused, state-accepted}
 use Rattle.table.specs.Loop.{after}
-use Rattle.table.specs.Tick.{Solved, totalsPlace, totalsNumbers, storeTotals, anchoredAt, before, newBody, newFault, storeBody, stored, finished, tickAccepted}
+use Rattle.table.specs.Tick.{Solved, totalsNumbers, storeTotals, anchoredAt, before, newBody, newFault, storeBody, stored, finished, tickAccepted}
 use Rattle.table.specs.Run.{tickOf, tickNext, runOf}
 use Rattle.table.specs.Parts.{ticksOf}
 use Rattle.table.proofs.Loops.{after-none, after-more, after-done, after-kept, after-same, any-same, take-getD}

@@ -2,8 +2,8 @@
 ghost use mathlib.Core.Path.{_≡_};
 ghost use Prim.Native.Nat.{_+_, _*_, _≤_, _<_};
 ghost use lib.ListN.{length};
-ghost use Rattle.card.specs.Layout.{maxBodies, bodyBytes, bodyPlace, bodyNumbers, jointNumbers};
-ghost use Rattle.table.specs.Tick.{vec3In, quatIn, bodyStateAt, totalsPlace, totalsAt};
+ghost use Rattle.card.specs.Layout.{maxBodies, bodyBytes, bodyPlace, bodyNumbers, jointNumbers, totalsPlace};
+ghost use Rattle.table.specs.Tick.{vec3In, quatIn, bodyStateAt, totalsAt};
 ghost use Rattle.table.specs.Parts.{rigidIn, indexOf, moved, cardBodyAt, integratedOr};
 use card::layout::BODY_NUMBERS;
 use card::layout::JOINT_NUMBERS;
