@@ -51,5 +51,4 @@ in-range r x f e =
             (inl (le→place binary32 (least r) x (l .0) f (b .0), le→place binary32 x (greatest r) f (g .0) (b .1))),
       );
       low = b .0;
-      high = b .1;
     }
