@@ -21,12 +21,14 @@ pub const BODY_BITS: usize = 2;
 
 pub const JOINT_BITS: usize = 3;
 
-// The number of the first float of each field after the first, and how many floats a record has.
-pub const WARM_COEFFICIENT: usize = 1;
+// The number of the first float of each field.
+pub const GRAVITY: usize = 0;
 
-pub const HEADER_FLOATS: usize = WARM_COEFFICIENT + 1;
+pub const WARM_COEFFICIENT: usize = GRAVITY + 1;
 
-pub const ROTATION: usize = 3;
+pub const POSITION: usize = 0;
+
+pub const ROTATION: usize = POSITION + 3;
 
 pub const CENTER_OF_MASS: usize = ROTATION + 4;
 
@@ -38,9 +40,9 @@ pub const INV_MASS: usize = ANGULAR_VELOCITY + 3;
 
 pub const INV_INERTIA: usize = INV_MASS + 1;
 
-pub const BODY_FLOATS: usize = INV_INERTIA + 6;
+pub const ANCHOR1: usize = 0;
 
-pub const ANCHOR2: usize = 3;
+pub const ANCHOR2: usize = ANCHOR1 + 3;
 
 pub const BASIS1: usize = ANCHOR2 + 3;
 
@@ -55,8 +57,6 @@ pub const LIMIT1: usize = COMPLIANCES + 4;
 pub const LIMIT2: usize = LIMIT1 + 2;
 
 pub const MOTOR: usize = LIMIT2 + 2;
-
-pub const JOINT_FLOATS: usize = MOTOR + 5;
 
 // Numbers in the state, of a body and of a joint.
 pub const BODY_NUMBERS: usize = 13;
