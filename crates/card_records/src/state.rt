@@ -14,7 +14,7 @@ use crate::body::body_at;
 use card::answer::Answer;
 use card::checks::check;
 use card::layout::BODY_NUMBERS;
-use card::layout::JOINT_NUMBERS;
+use card::layout::state_length;
 use card::records::Header;
 use card::records::header_at;
 use scalar::MAX;
@@ -96,7 +96,7 @@ fn start_accepted(card: &[u8], h: Header, state: &mut [f32]) -> Answer
 {
     let bodies = h.bodies;
     let joints = h.joints;
-    if state.len() != BODY_NUMBERS * bodies + JOINT_NUMBERS * joints {
+    if state.len() != state_length(bodies, joints) {
         return Answer::StateLength;
     }
     clear(state);
@@ -149,7 +149,7 @@ pub fn state_answer(bodies: usize, joints: usize, state: &[f32]) -> Answer
     requires { ⌜ (bodies ≤ maxBodies) × (joints ≤ maxJoints) ⌝ }
     ensures { λ r. ⌜ numberOf r ≡ stateFault bodies joints (now (state .entry)) ⌝ }
 {
-    if state.len() != BODY_NUMBERS * bodies + JOINT_NUMBERS * joints {
+    if state.len() != state_length(bodies, joints) {
         return Answer::StateLength;
     }
     if any_number_fault(bodies, state) {
