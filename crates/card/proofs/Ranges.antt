@@ -10,8 +10,9 @@ use lib.Ieee.Bits.{ofBits-fits}
 use lib.Ieee.Fits.{neg-fits}
 use Rattle.laws.proofs.Place.{Held, le→place, le-real}
 use Rattle.laws.proofs.Between.{amid-finite}
+use Rattle.scalar.specs.Scalar.{outside}
 use Rattle.card.specs.Bits.{bits32, floatAt}
-use Rattle.card.specs.Fields.{bound, least, greatest, outside, outOf}
+use Rattle.card.specs.Fields.{bound, least, greatest, outOf}
 use Rattle.card.specs.Accepted.{InRange}
 use Rattle.card.specs.declared.fields.Range.{Range}
 use Rattle.card.specs.declared.fields.Range.the-variants.{Bounded, NotNegative, Cap}
@@ -50,5 +51,4 @@ in-range r x f e =
             (inl (le→place binary32 (least r) x (l .0) f (b .0), le→place binary32 x (greatest r) f (g .0) (b .1))),
       );
       low = b .0;
-      high = b .1;
     }

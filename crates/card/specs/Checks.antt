@@ -5,14 +5,16 @@ use mathlib.Core.List.{List, [], _∷_}
 use lib.ListN.{length}
 use lib.Dec.{leb, ltb, eqb}
 use lib.Ieee.{Float, lt}
-use Rattle.scalar.specs.Arith.{_⊕_, _⊗_, f32}
+use Rattle.scalar.specs.Arith.{f32}
+use Rattle.scalar.specs.Scalar.{outside}
 use Rattle.vector.specs.Vector.{lengthSquaredOf}
+use Rattle.vector.specs.Rotation.{normSquaredOf}
 use Rattle.vector.specs.declared.Vec3.{Vec3}
 use Rattle.vector.specs.declared.Quat.{Quat}
 use Rattle.card.specs.Layout.{maxBodies, maxJoints, minRate, maxRate, headerBytes, bodyPlace, jointPlace, headerFloats, bodyFloats, jointFloats, headerFloatCount, bodyFloatCount, jointFloatCount, rotationFloat, basis1Float, basis2Float, axisFloat, limit1Float, limit2Float}
 use Rattle.card.specs.Bits.{bits16, bits24, bits32, floatAt, vec3At, quatAt}
 use Rattle.card.specs.Loop.{anyTo}
-use Rattle.card.specs.Fields.{kindOf, allows, headerFields, bodyFields, jointFields, hasMotor, unusedBits, floatOf, outside, outOf}
+use Rattle.card.specs.Fields.{kindOf, allows, headerFields, bodyFields, jointFields, hasMotor, unusedBits, floatOf, outOf}
 use Rattle.card.specs.Records.{headerAt, bodyBits, jointBits}
 use Rattle.card.specs.declared.records.Header.{Header}
 use Rattle.card.specs.declared.records.JointBits.{JointBits}
@@ -62,14 +64,11 @@ limitFault card at = lt (floatAt card (at + 4)) (floatAt card at)
 unfoldable pub offUnit : Float → Bool
 offUnit s = outside s (f32 0x3f7f_c000) (f32 0x3f80_2000)
 
-abbrev pub squares : Quat → Float
-squares q = q .x ⊗ q .x ⊕ q .y ⊗ q .y ⊕ q .z ⊗ q .z ⊕ q .w ⊗ q .w
-
 unfoldable pub axisFault : Vec3 → Bool
 axisFault v = offUnit (lengthSquaredOf v)
 
 unfoldable pub rotationFault : Quat → Bool
-rotationFault q = offUnit (squares q)
+rotationFault q = offUnit (normSquaredOf q)
 
 unfoldable pub basesFault : List ℕ → Bool → ℕ → Bool
 basesFault card used floats =

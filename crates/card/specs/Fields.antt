@@ -4,8 +4,9 @@ use mathlib.Core.Bool.{Bool, true, false, not, _||_, _&&_}
 use mathlib.Core.List.{List, [], _∷_}
 use lib.ListN.{getD}
 use lib.Dec.{ltb, eqb}
-use lib.Ieee.{Float, le, neg}
+use lib.Ieee.{Float, neg}
 use Rattle.scalar.specs.Arith.{if_then_else_, f32, f0, largest}
+use Rattle.scalar.specs.Scalar.{outside}
 use Rattle.card.specs.Bits.{field}
 use Rattle.card.specs.declared.records.BodyBits.{BodyBits}
 use Rattle.card.specs.declared.records.JointBits.{JointBits}
@@ -235,10 +236,6 @@ abbrev pub greatest : Range → Float
 greatest Bounded = bound
 greatest NotNegative = bound
 greatest Cap = largest
-
--- below low, above high, or a NaN
-unfoldable pub outside : Float → Float → Float → Bool
-outside x low high = not (le low x && le x high)
 
 unfoldable pub outOf : Range → Float → Bool
 outOf range x = outside x (least range) (greatest range)

@@ -104,5 +104,9 @@ bodyNumbers = 13
 abbrev pub jointNumbers : ℕ
 jointNumbers = 12
 
+-- where joint j's numbers stand, behind those of the bodies
+abbrev pub totalsPlace : ℕ → ℕ → ℕ
+totalsPlace bodies j = bodyNumbers * bodies + jointNumbers * j
+
 abbrev pub stateLength : ℕ → ℕ → ℕ
-stateLength bodies joints = bodyNumbers * bodies + jointNumbers * joints
+stateLength bodies joints = totalsPlace bodies joints

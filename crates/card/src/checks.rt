@@ -12,7 +12,6 @@ use crate::bits::quat_at;
 use crate::bits::vec3_at;
 use crate::fields::JointKind;
 use crate::fields::kind_of;
-use crate::fields::outside;
 use crate::float_checks::FloatCheck;
 use crate::float_checks::body_floats_fault;
 use crate::float_checks::header_floats_fault;
@@ -20,11 +19,7 @@ use crate::float_checks::joint_floats_fault;
 use crate::layout::AXIS;
 use crate::layout::BASIS1;
 use crate::layout::BASIS2;
-use crate::layout::BODY_BITS;
-use crate::layout::BODY_BYTES;
 use crate::layout::HEADER_BYTES;
-use crate::layout::JOINT_BITS;
-use crate::layout::JOINT_BYTES;
 use crate::layout::LIMIT1;
 use crate::layout::LIMIT2;
 use crate::layout::MAX_BODIES;
@@ -32,10 +27,14 @@ use crate::layout::MAX_JOINTS;
 use crate::layout::MAX_RATE;
 use crate::layout::MIN_RATE;
 use crate::layout::ROTATION;
+use crate::layout::body_floats;
+use crate::layout::joint_floats;
+use crate::layout::joint_place;
 use crate::records::JointBits;
 use crate::records::body_bits;
 use crate::records::header_at;
 use crate::records::joint_bits;
+use scalar::outside;
 use vector::Quat;
 use vector::Vec3;
 
@@ -140,7 +139,7 @@ fn axis_fault(v: Vec3) -> bool
 fn rotation_fault(q: Quat) -> bool
     ensures { λ r. ⌜ r ≡ rotationFault q ⌝ }
 {
-    off_unit(q.x * q.x + q.y * q.y + q.z * q.z + q.w * q.w)
+    off_unit(q.length_squared())
 }
 
 fn bases_fault(card: &[u8], used: bool, floats: usize) -> bool
@@ -205,7 +204,7 @@ fn body_fault(card: &[u8], k: RecordCheck, i: usize) -> bool
     requires { ⌜ bodyPlace i + bodyBytes ≤ length (now card) ⌝ }
     ensures { λ r. ⌜ r ≡ bodyFault (now (card .entry)) k i ⌝ }
 {
-    let floats = HEADER_BYTES + BODY_BYTES * i + BODY_BITS;
+    let floats = body_floats(i);
     match k {
         RecordCheck::Bits => {
             if body_bits_fault(card, i) {
@@ -240,7 +239,7 @@ fn joint_fault(card: &[u8], bodies: usize, k: RecordCheck, j: usize) -> bool
     requires { ⌜ jointPlace bodies j + jointBytes ≤ length (now card) ⌝ }
     ensures { λ r. ⌜ r ≡ jointFault (now (card .entry)) bodies k j ⌝ }
 {
-    let floats = HEADER_BYTES + BODY_BYTES * bodies + JOINT_BYTES * j + JOINT_BITS;
+    let floats = joint_floats(bodies, j);
     let b = joint_bits(card, bodies, j);
     match k {
         RecordCheck::Bits => {
@@ -307,7 +306,7 @@ pub fn check(card: &[u8]) -> Answer
     if rate_fault(h.rate) {
         return Answer::WrongRate;
     }
-    if card.len() != HEADER_BYTES + BODY_BYTES * bodies + JOINT_BYTES * joints {
+    if card.len() != joint_place(bodies, joints) {
         return Answer::WrongLength;
     }
     if record_fault(card, bodies, joints, RecordCheck::Bits) {

@@ -1,9 +1,10 @@
 // What a kind of joint has, and what a float may be.
 ghost use mathlib.Core.Path.{_≡_};
-ghost use Rattle.card.specs.Fields.{knownKind, unknownKind, kindOf, allows, outside, outOf};
+ghost use Rattle.card.specs.Fields.{knownKind, unknownKind, kindOf, allows, outOf};
 use crate::records::BodyBits;
 use crate::records::JointBits;
 use scalar::MAX;
+use scalar::outside;
 
 // Whether a limit or a motor may be there.
 pub enum Presence {
@@ -111,16 +112,6 @@ pub enum Form {
     HeaderForm,
     BodyForm(BodyBits),
     JointForm(JointBits),
-}
-
-// Whether x is below low, above high, or a NaN.
-pub fn outside(x: f32, low: f32, high: f32) -> bool
-    ensures { λ r. ⌜ r ≡ outside x low high ⌝ }
-{
-    if low <= x {
-        return !(x <= high);
-    }
-    true
 }
 
 impl Range {

@@ -10,6 +10,7 @@ use crate::bits::float_at;
 use crate::fields::Form;
 use crate::fields::Range;
 use crate::fields::kind_of;
+use crate::layout::ANCHOR1;
 use crate::layout::ANCHOR2;
 use crate::layout::ANGULAR_VELOCITY;
 use crate::layout::AXIS;
@@ -17,6 +18,7 @@ use crate::layout::BASIS1;
 use crate::layout::BASIS2;
 use crate::layout::CENTER_OF_MASS;
 use crate::layout::COMPLIANCES;
+use crate::layout::GRAVITY;
 use crate::layout::HEADER_BITS;
 use crate::layout::INV_INERTIA;
 use crate::layout::INV_MASS;
@@ -24,6 +26,7 @@ use crate::layout::LIMIT1;
 use crate::layout::LIMIT2;
 use crate::layout::LINEAR_VELOCITY;
 use crate::layout::MOTOR;
+use crate::layout::POSITION;
 use crate::layout::ROTATION;
 use crate::layout::WARM_COEFFICIENT;
 use crate::records::BodyBits;
@@ -92,8 +95,7 @@ pub fn header_floats_fault(card: &[u8], k: FloatCheck) -> bool
     ensures { λ r. ⌜ r ≡ floatsFault (now (card .entry)) k Form.HeaderForm headerFloats headerFloatCount ⌝ }
 {
     let at = HEADER_BITS;
-    // gravity
-    field_fault(card, k, at, true, Range::Bounded, 0, 1)
+    field_fault(card, k, at, true, Range::Bounded, GRAVITY, 1)
         | field_fault(card, k, at, true, Range::NotNegative, WARM_COEFFICIENT, 1)
 }
 
@@ -104,8 +106,7 @@ pub fn body_floats_fault(card: &[u8], k: FloatCheck, b: BodyBits, at: usize) -> 
     let bounded = Range::Bounded;
     let not_negative = Range::NotNegative;
     let moving = !b.anchored;
-    // position
-    field_fault(card, k, at, true, bounded, 0, 3)
+    field_fault(card, k, at, true, bounded, POSITION, 3)
         | field_fault(card, k, at, true, bounded, ROTATION, 4)
         | field_fault(card, k, at, true, bounded, CENTER_OF_MASS, 3)
         | field_fault(card, k, at, moving, bounded, LINEAR_VELOCITY, 3)
@@ -123,8 +124,7 @@ pub fn joint_floats_fault(card: &[u8], k: FloatCheck, b: JointBits, at: usize) -
     let kind = kind_of(b.kind);
     let many = kind.compliances;
     let motor = b.motor != 0;
-    // first anchor
-    field_fault(card, k, at, true, bounded, 0, 3)
+    field_fault(card, k, at, true, bounded, ANCHOR1, 3)
         | field_fault(card, k, at, true, bounded, ANCHOR2, 3)
         | field_fault(card, k, at, kind.bases, bounded, BASIS1, 4)
         | field_fault(card, k, at, kind.bases, bounded, BASIS2, 4)

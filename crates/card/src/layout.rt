@@ -1,4 +1,7 @@
-// The sizes of document 01, 'The card' and 'Turned back'; specs/Layout.antt has the same numbers.
+// The sizes of document 01, 'The card' and 'Turned back', and where each record stands; specs/Layout.antt has the same numbers.
+ghost use mathlib.Core.Path.{_≡_};
+ghost use Prim.Native.Nat.{_<_, _^_};
+ghost use Rattle.card.specs.Layout.{bodyPlace, jointPlace, bodyFloats, jointFloats, totalsPlace, stateLength};
 
 pub const MAX_BODIES: usize = 32;
 
@@ -14,6 +17,20 @@ pub const BODY_BYTES: usize = 94;
 
 pub const JOINT_BYTES: usize = 123;
 
+pub fn body_place(i: usize) -> usize
+    requires { ⌜ bodyPlace i < 2 ^ 64 ⌝ }
+    ensures { λ r. ⌜ r ≡ bodyPlace i ⌝ }
+{
+    HEADER_BYTES + BODY_BYTES * i
+}
+
+pub fn joint_place(bodies: usize, j: usize) -> usize
+    requires { ⌜ jointPlace bodies j < 2 ^ 64 ⌝ }
+    ensures { λ r. ⌜ r ≡ jointPlace bodies j ⌝ }
+{
+    HEADER_BYTES + BODY_BYTES * bodies + JOINT_BYTES * j
+}
+
 // Bits before the floats of a record, in bytes.
 pub const HEADER_BITS: usize = 4;
 
@@ -21,12 +38,29 @@ pub const BODY_BITS: usize = 2;
 
 pub const JOINT_BITS: usize = 3;
 
-// The number of the first float of each field after the first, and how many floats a record has.
-pub const WARM_COEFFICIENT: usize = 1;
+// Where the floats of a record begin.
+pub fn body_floats(i: usize) -> usize
+    requires { ⌜ bodyFloats i < 2 ^ 64 ⌝ }
+    ensures { λ r. ⌜ r ≡ bodyFloats i ⌝ }
+{
+    body_place(i) + BODY_BITS
+}
 
-pub const HEADER_FLOATS: usize = WARM_COEFFICIENT + 1;
+pub fn joint_floats(bodies: usize, j: usize) -> usize
+    requires { ⌜ jointFloats bodies j < 2 ^ 64 ⌝ }
+    ensures { λ r. ⌜ r ≡ jointFloats bodies j ⌝ }
+{
+    joint_place(bodies, j) + JOINT_BITS
+}
 
-pub const ROTATION: usize = 3;
+// The number of the first float of each field.
+pub const GRAVITY: usize = 0;
+
+pub const WARM_COEFFICIENT: usize = GRAVITY + 1;
+
+pub const POSITION: usize = 0;
+
+pub const ROTATION: usize = POSITION + 3;
 
 pub const CENTER_OF_MASS: usize = ROTATION + 4;
 
@@ -38,9 +72,9 @@ pub const INV_MASS: usize = ANGULAR_VELOCITY + 3;
 
 pub const INV_INERTIA: usize = INV_MASS + 1;
 
-pub const BODY_FLOATS: usize = INV_INERTIA + 6;
+pub const ANCHOR1: usize = 0;
 
-pub const ANCHOR2: usize = 3;
+pub const ANCHOR2: usize = ANCHOR1 + 3;
 
 pub const BASIS1: usize = ANCHOR2 + 3;
 
@@ -56,9 +90,22 @@ pub const LIMIT2: usize = LIMIT1 + 2;
 
 pub const MOTOR: usize = LIMIT2 + 2;
 
-pub const JOINT_FLOATS: usize = MOTOR + 5;
-
 // Numbers in the state, of a body and of a joint.
 pub const BODY_NUMBERS: usize = 13;
 
 pub const JOINT_NUMBERS: usize = 12;
+
+// Where joint j's numbers stand, behind those of the bodies.
+pub fn totals_place(bodies: usize, j: usize) -> usize
+    requires { ⌜ totalsPlace bodies j < 2 ^ 64 ⌝ }
+    ensures { λ r. ⌜ r ≡ totalsPlace bodies j ⌝ }
+{
+    BODY_NUMBERS * bodies + JOINT_NUMBERS * j
+}
+
+pub fn state_length(bodies: usize, joints: usize) -> usize
+    requires { ⌜ stateLength bodies joints < 2 ^ 64 ⌝ }
+    ensures { λ r. ⌜ r ≡ stateLength bodies joints ⌝ }
+{
+    totals_place(bodies, joints)
+}

@@ -8,11 +8,10 @@ use crate::bits::bits16_at;
 use crate::bits::bits24_at;
 use crate::bits::bits32_at;
 use crate::bits::float_at;
-use crate::layout::BODY_BYTES;
 use crate::layout::HEADER_BITS;
-use crate::layout::HEADER_BYTES;
-use crate::layout::JOINT_BYTES;
 use crate::layout::WARM_COEFFICIENT;
+use crate::layout::body_place;
+use crate::layout::joint_place;
 
 pub struct Header {
     pub edition: u32,
@@ -77,7 +76,7 @@ pub fn body_bits(card: &[u8], i: usize) -> BodyBits
     requires { ⌜ bodyPlace i + 2 ≤ length (now card) ⌝ }
     ensures { λ r. ⌜ r ≡ bodyBits (now (card .entry)) i ⌝ }
 {
-    let b = bits16_at(card, HEADER_BYTES + BODY_BYTES * i);
+    let b = bits16_at(card, body_place(i));
     BodyBits {
         anchored: b / 0x8000 % 2 == 1,
         locks: b / 0x1000 % 8,
@@ -90,7 +89,7 @@ pub fn joint_bits(card: &[u8], bodies: usize, j: usize) -> JointBits
     requires { ⌜ jointPlace bodies j + 3 ≤ length (now card) ⌝ }
     ensures { λ r. ⌜ r ≡ jointBits (now (card .entry)) bodies j ⌝ }
 {
-    let b = bits24_at(card, HEADER_BYTES + BODY_BYTES * bodies + JOINT_BYTES * j);
+    let b = bits24_at(card, joint_place(bodies, j));
     JointBits {
         kind: b / 0x0020_0000 % 8,
         body1: (b / 0x0001_0000 % 0x20) as usize,

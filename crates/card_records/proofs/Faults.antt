@@ -13,7 +13,8 @@ use Rattle.scalar.specs.Arith.{largest}
 use Rattle.card.specs.Layout.{bodyNumbers}
 use Rattle.card.specs.Loop.{anyTo}
 use Rattle.card.proofs.Loops.{any-parts}
-use Rattle.card_records.specs.State.{positionBound, boundOf, numberFault}
+use Rattle.solver_body.specs.Body.{positionBound}
+use Rattle.card_records.specs.State.{boundOf, numberFault}
 use Rattle.card_records.specs.Parts.{overAt}
 
 pub any-next : (p : ℕ → Bool) (n : ℕ) → anyTo p (n + 1) ≡ (anyTo p n || p n)

@@ -4,7 +4,7 @@ use mathlib.Core.Bool.{Bool}
 use mathlib.Core.List.{List}
 use lib.ListN.{getD}
 use lib.Ieee.{Float, nan, neg}
-use Rattle.card.specs.Fields.{outside}
+use Rattle.scalar.specs.Scalar.{outside}
 
 -- number at + k is not finite, or over m in size
 unfoldable pub overAt : List Float → ℕ → Float → ℕ → Bool

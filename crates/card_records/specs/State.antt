@@ -1,16 +1,17 @@
 -- The state: 13 numbers for each body, then 12 for each joint; its start, and refusals 11 and 12. Document 01, 'The card' and 'Turned back'.
-use Prim.Native.Nat.{ℕ, zero, suc, _+_, _*_, _%_}
+use Prim.Native.Nat.{ℕ, zero, suc, _*_, _%_}
 use mathlib.Core.Bool.{Bool, not, _&&_}
 use mathlib.Core.List.{List, [], _∷_, _++_}
 use lib.ListN.{length, getD, replicate}
 use lib.Dec.{eqb, ltb}
 use lib.Ieee.{Float, nan, neg}
-use Rattle.scalar.specs.Arith.{if_then_else_, f32, f0, largest}
+use Rattle.scalar.specs.Arith.{if_then_else_, f0, largest}
+use Rattle.scalar.specs.Scalar.{outside}
 use Rattle.vector.specs.declared.Vec3.{Vec3}
 use Rattle.vector.specs.declared.Quat.{Quat}
+use Rattle.solver_body.specs.Body.{positionBound}
 use Rattle.card.specs.Layout.{bodyNumbers, jointNumbers, stateLength}
 use Rattle.card.specs.Loop.{anyTo}
-use Rattle.card.specs.Fields.{outside}
 use Rattle.card.specs.Records.{headerAt}
 use Rattle.card.specs.Checks.{Refusal, refuse, firstOf, checkOf}
 use Rattle.card.specs.declared.records.Header.{Header}
@@ -41,10 +42,6 @@ startState card h = startTo card (h .bodies) ++ replicate (jointNumbers * h .joi
 
 -- ---- refusals 11 and 12
 
--- 4,096
-abbrev pub positionBound : Float
-positionBound = f32 0x4580_0000
-
 -- the bound of number n: the first three of a body are its position
 unfoldable pub boundOf : ℕ → ℕ → Float
 boundOf bodies n = if ltb n (bodyNumbers * bodies) && ltb (n % bodyNumbers) 3 then positionBound else largest
@@ -53,9 +50,12 @@ boundOf bodies n = if ltb n (bodyNumbers * bodies) && ltb (n % bodyNumbers) 3 th
 unfoldable pub numberFault : ℕ → List Float → ℕ → Bool
 numberFault bodies s n = let m = boundOf bodies n in outside (getD s n nan) (neg m) m
 
+abbrev pub lengthFault : ℕ → ℕ → List Float → Bool
+lengthFault bodies joints s = not (eqb (length s) (stateLength bodies joints))
+
 abbrev pub stateChecks : ℕ → ℕ → List Float → List Refusal
 stateChecks bodies joints s =
-    refuse 11 (not (eqb (length s) (stateLength bodies joints)))
+    refuse 11 (lengthFault bodies joints s)
     ∷ refuse 12 (anyTo (numberFault bodies s) (length s))
     ∷ []
 
@@ -83,7 +83,7 @@ answered n s = record { number = n; state = s }
 
 unfoldable pub startAccepted : List ℕ → Header → List Float → Answered
 startAccepted card h s =
-    if eqb (length s) (stateLength (h .bodies) (h .joints)) then answered 0 (startState card h) else answered 11 s
+    if lengthFault (h .bodies) (h .joints) s then answered 11 s else answered 0 (startState card h)
 
 -- the start state, or the first of the refusals 1 to 11 that applies and the state as it was
 unfoldable pub startOf : List ℕ → List Float → Answered

@@ -8,14 +8,12 @@ use card::bits::float_at;
 use card::bits::quat_at;
 use card::bits::vec3_at;
 use card::layout::ANGULAR_VELOCITY;
-use card::layout::BODY_BITS;
-use card::layout::BODY_BYTES;
 use card::layout::CENTER_OF_MASS;
-use card::layout::HEADER_BYTES;
 use card::layout::INV_INERTIA;
 use card::layout::INV_MASS;
 use card::layout::LINEAR_VELOCITY;
 use card::layout::ROTATION;
+use card::layout::body_floats;
 use card::records::BodyBits;
 use card::records::body_bits;
 use solver_body::SolverBodyInertia;
@@ -79,24 +77,21 @@ pub fn inertia_at(card: &[u8], i: usize) -> SolverBodyInertia
     if b.anchored {
         return SolverBodyInertia::DUMMY;
     }
-    moving_inertia(card, b, HEADER_BYTES + BODY_BYTES * i + BODY_BITS)
+    moving_inertia(card, b, body_floats(i))
 }
 
 pub fn center_of_mass_at(card: &[u8], i: usize) -> Vec3
     requires { ⌜ bodyPlace i + bodyBytes ≤ length (now card) ⌝ }
     ensures { λ r. ⌜ r ≡ centerOfMassAt (now (card .entry)) i ⌝ }
 {
-    vec3_at(
-        card,
-        HEADER_BYTES + BODY_BYTES * i + BODY_BITS + 4 * CENTER_OF_MASS,
-    )
+    vec3_at(card, body_floats(i) + 4 * CENTER_OF_MASS)
 }
 
 pub fn body_at(card: &[u8], i: usize) -> CardBody
     requires { ⌜ bodyPlace i + bodyBytes ≤ length (now card) ⌝ }
     ensures { λ r. ⌜ r ≡ bodyAt (now (card .entry)) i ⌝ }
 {
-    let floats = HEADER_BYTES + BODY_BYTES * i + BODY_BITS;
+    let floats = body_floats(i);
     CardBody {
         position: vec3_at(card, floats),
         rotation: quat_at(card, floats + 4 * ROTATION),

@@ -11,14 +11,11 @@ use card::layout::ANCHOR2;
 use card::layout::AXIS;
 use card::layout::BASIS1;
 use card::layout::BASIS2;
-use card::layout::BODY_BYTES;
 use card::layout::COMPLIANCES;
-use card::layout::HEADER_BYTES;
-use card::layout::JOINT_BITS;
-use card::layout::JOINT_BYTES;
 use card::layout::LIMIT1;
 use card::layout::LIMIT2;
 use card::layout::MOTOR;
+use card::layout::joint_floats;
 use card::records::JointBits;
 use card::records::joint_bits;
 use joints::AngleLimit;
@@ -236,9 +233,5 @@ pub fn joint_at(card: &[u8], bodies: usize, j: usize) -> CardJoint
     requires { ⌜ jointPlace bodies j + jointBytes ≤ length (now card) ⌝ }
     ensures { λ r. ⌜ r ≡ jointAt (now (card .entry)) bodies j ⌝ }
 {
-    joint_of(
-        card,
-        joint_bits(card, bodies, j),
-        HEADER_BYTES + BODY_BYTES * bodies + JOINT_BYTES * j + JOINT_BITS,
-    )
+    joint_of(card, joint_bits(card, bodies, j), joint_floats(bodies, j))
 }

@@ -13,12 +13,13 @@ ghost use Rattle.card_records.specs.Parts.{overAt};
 use crate::body::body_at;
 use card::answer::Answer;
 use card::checks::check;
-use card::fields::outside;
 use card::layout::BODY_NUMBERS;
-use card::layout::JOINT_NUMBERS;
+use card::layout::state_length;
 use card::records::Header;
 use card::records::header_at;
 use scalar::MAX;
+use scalar::outside;
+use solver_body::POSITION_BOUND;
 use vector::Quat;
 use vector::Vec3;
 
@@ -95,7 +96,7 @@ fn start_accepted(card: &[u8], h: Header, state: &mut [f32]) -> Answer
 {
     let bodies = h.bodies;
     let joints = h.joints;
-    if state.len() != BODY_NUMBERS * bodies + JOINT_NUMBERS * joints {
+    if state.len() != state_length(bodies, joints) {
         return Answer::StateLength;
     }
     clear(state);
@@ -136,7 +137,7 @@ fn any_number_fault(bodies: usize, state: &[f32]) -> bool
     let mut i = 0;
     while i < bodies {
         let at = BODY_NUMBERS * i;
-        fault = fault | any_over(state, at, 3, 4096.0) | any_over(state, at + 3, 10, MAX);
+        fault = fault | any_over(state, at, 3, POSITION_BOUND) | any_over(state, at + 3, 10, MAX);
         i += 1;
     }
     let at = BODY_NUMBERS * bodies;
@@ -148,7 +149,7 @@ pub fn state_answer(bodies: usize, joints: usize, state: &[f32]) -> Answer
     requires { ⌜ (bodies ≤ maxBodies) × (joints ≤ maxJoints) ⌝ }
     ensures { λ r. ⌜ numberOf r ≡ stateFault bodies joints (now (state .entry)) ⌝ }
 {
-    if state.len() != BODY_NUMBERS * bodies + JOINT_NUMBERS * joints {
+    if state.len() != state_length(bodies, joints) {
         return Answer::StateLength;
     }
     if any_number_fault(bodies, state) {

@@ -12,15 +12,15 @@ use lib.Seq.{sets, take-set-le, drop-set-lt, drop-set-add}
 use lib.Dec.{T, T-not, eqb}
 use lib.Ieee.{Float}
 use Rattle.scalar.specs.Arith.{if_then_else_}
-use Rattle.card.specs.Layout.{stateLength}
+use Rattle.card.specs.Layout.{totalsPlace}
 use Rattle.card.specs.Loop.{anyTo}
 use Rattle.card.specs.Records.{headerAt, bodyBits}
 use Rattle.card.specs.Checks.{checkOf}
-use Rattle.card_records.specs.State.{startState, checkStateOf, Answered, answered, startAccepted, startOf}
+use Rattle.card_records.specs.State.{lengthFault, startState, checkStateOf, Answered, answered, startAccepted, startOf}
 use Rattle.card.specs.declared.records.Header.{Header}
 use Rattle.tick.specs.Joint.{noTotals}
 use Rattle.table.specs.Loop.{after}
-use Rattle.table.specs.Tick.{Solved, totalsPlace, bodyStateNumbers, totalsNumbers, newBody, newFault, storeBody, storeTotals, stored, before, finished, tickAccepted}
+use Rattle.table.specs.Tick.{Solved, bodyStateNumbers, totalsNumbers, newBody, newFault, storeBody, storeTotals, stored, before, finished, tickAccepted}
 use Rattle.table.specs.Run.{tickOf, tickNext, runOf}
 use Rattle.demand.specs.Demand.{Call, start, tick, ticks, bytesOf, leaves, afterCalls, CardOrRefused, AnchoredKept}
 use Rattle.card_records.proofs.Starting.{start-refused}
@@ -129,7 +129,7 @@ unfolding startOf startAccepted
 start-same card s z =
     let H = headerAt card in
     either (KeptBy card) (eqb (checkOf card) 0) (startAccepted card H s) (answered (checkOf card) s)
-    (either (KeptBy card) (eqb (length s) (stateLength (H .bodies) (H .joints))) (answered 0 (startState card H)) (answered 11 s) (start-kept card) z) z
+    (either (KeptBy card) (lengthFault (H .bodies) (H .joints) s) (answered 11 s) (answered 0 (startState card H)) z (start-kept card)) z
 
 start-leaves : (card d : List ℕ) (s : List Float) → CardOrRefused card d → AnchoredKept card s → AnchoredKept card (startOf d s .state)
 start-leaves card d s (inl e) z = rw e (start-same card s z)

@@ -4,7 +4,7 @@ use mathlib.Core.Bool.{true, false}
 use lib.IntN.{negsuc}
 use lib.Ieee.{Float, nan, inf, fin, neg, rem, lt, eq, le, ofBits}
 use Rattle.scalar.specs.Arith.{f32, epsilon, tau}
-use Rattle.scalar.specs.Scalar.{minOf, maxOf, clampOf, remEuclidOf, overOf}
+use Rattle.scalar.specs.Scalar.{minOf, maxOf, clampOf, remEuclidOf, outside}
 
 clamp-keeps-nan : (low high : Float) → clampOf nan low high ≡ nan
 unfolding clampOf minOf maxOf lt
@@ -20,10 +20,10 @@ epsilon-is : epsilon ≡ fin false 1 (negsuc 22)
 unfolding ofBits
 epsilon-is = refl
 
-bound-passes : overOf (f32 0x4480_0000) (f32 0x4480_0000) ≡ false
-unfolding overOf le lt eq neg ofBits
+bound-passes : outside (f32 0x4480_0000) (neg (f32 0x4480_0000)) (f32 0x4480_0000) ≡ false
+unfolding outside le lt eq neg ofBits
 bound-passes = refl
 
-next-is-over : overOf (f32 0x4480_0001) (f32 0x4480_0000) ≡ true
-unfolding overOf le lt eq neg ofBits
+next-is-over : outside (f32 0x4480_0001) (neg (f32 0x4480_0000)) (f32 0x4480_0000) ≡ true
+unfolding outside le lt eq neg ofBits
 next-is-over = refl

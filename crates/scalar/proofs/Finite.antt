@@ -1,4 +1,4 @@
--- What `is_finite` rests on: `over` of a finite bound is 'not finite, or over it in size' (`over-is`), so `over` of the largest f32 is 'not finite' (`finite-is`).
+-- What `is_finite` rests on: `outside` of -m and m, for a finite m, is 'not finite, or over m in size' (`over-is`); of the largest f32 it is 'not finite' (`finite-is`).
 -- 'Finite' is the model's constructor fin (`isFinite`), which is also what the kit's laws call finite (`is-finite`).
 use mathlib.Core.Path.{_≡_, refl, sym, ap, _∙_}
 use mathlib.Core.Bool.{Bool, true, false, not, _&&_}
@@ -15,9 +15,9 @@ use lib.Ieee.Fits.{and-i, and-l, and-r}
 use lib.Ieee.Scale.{finite}
 use Rattle.laws.proofs.Place.{signed, atMost, atMost→, →atMost, fit-of}
 use Rattle.scalar.specs.Arith.{largest}
-use Rattle.scalar.specs.Scalar.{absOf, isFinite, overOf}
+use Rattle.scalar.specs.Scalar.{absOf, isFinite, outside}
 
--- ---- `over`
+-- ---- `outside`
 same-test : (a b : Bool) → (T a → T b) → (T b → T a) → a ≡ b
 same-test true true h k = refl
 same-test true false h k = absurd (h tt)
@@ -31,26 +31,26 @@ module _ (a b : ℕ) where
   inside true false h k = omega arith
   inside true true h k = omega arith
 
-  outside : (s t : Bool) → signed (a + b) false a ≤ signed (a + b) t b → (signed (a + b) s a ≤ signed (a + b) t b) × (signed (a + b) (not t) b ≤ signed (a + b) s a)
-  outside false false h = (omega arith, omega arith)
-  outside false true h = (omega arith, omega arith)
-  outside true false h = (omega arith, omega arith)
-  outside true true h = (omega arith, omega arith)
+  both : (s t : Bool) → signed (a + b) false a ≤ signed (a + b) t b → (signed (a + b) s a ≤ signed (a + b) t b) × (signed (a + b) (not t) b ≤ signed (a + b) s a)
+  both false false h = (omega arith, omega arith)
+  both false true h = (omega arith, omega arith)
+  both true false h = (omega arith, omega arith)
+  both true true h = (omega arith, omega arith)
 
-  in-size : (s t : Bool) → (atMost s a t b && atMost (not t) b s a) ≡ atMost false a t b
+  in-size : (s t : Bool) → (atMost (not t) b s a && atMost s a t b) ≡ atMost false a t b
   in-size s t =
       let o = a + b in
-      let p = atMost s a t b in
-      let q = atMost (not t) b s a in
+      let p = atMost (not t) b s a in
+      let q = atMost s a t b in
       let A : a ≤ o = omega arith in
       let B : b ≤ o = omega arith in
       same-test (p && q) (atMost false a t b)
-      (λ (h : T (p && q)). →atMost o false a t b A B (inside s t (atMost→ o s a t b (and-l p q h)) (atMost→ o (not t) b s a (and-r p q h))))
-      (λ (h : T (atMost false a t b)). let k = outside s t (atMost→ o false a t b h) in and-i p q (→atMost o s a t b A B (k .0)) (→atMost o (not t) b s a B A (k .1)))
+      (λ (h : T (p && q)). →atMost o false a t b A B (inside s t (atMost→ o s a t b (and-r p q h)) (atMost→ o (not t) b s a (and-l p q h))))
+      (λ (h : T (atMost false a t b)). let k = both s t (atMost→ o false a t b h) in and-i p q (→atMost o (not t) b s a B A (k .1)) (→atMost o s a t b A B (k .0)))
 
--- for a finite m, `overOf x m` says that x is not finite or that its size is not at most m
-pub over-is : (x m : Float) → isFinite m ≡ true → overOf x m ≡ not (isFinite x && le (absOf x) m)
-unfolding isFinite overOf le lt eq neg
+-- for a finite m, outside of -m and m is not finite, or not at most m in size
+pub over-is : (x m : Float) → isFinite m ≡ true → outside x (neg m) m ≡ not (isFinite x && le (absOf x) m)
+unfolding isFinite outside le lt eq neg
 over-is x nan h = cc
 over-is x (inf t) h = cc
 over-is nan (fin t n d) h = refl
@@ -88,8 +88,8 @@ under-largest m (negsuc k) few h = mul-le-mul (le-trans (le-ones 24 few) (le-mul
     le-mul q h = le-trans (le-of-eq (sym (mul-one q))) (mul-le-mul (le-of-eq refl) h)
 
 -- an f32 is over the largest f32 exactly where it is not finite
-pub finite-is : (x : Float) → T (fits binary32 x) → not (overOf x largest) ≡ isFinite x
-unfolding isFinite overOf le lt eq neg ofBits
+pub finite-is : (x : Float) → T (fits binary32 x) → not (outside x (neg largest) largest) ≡ isFinite x
+unfolding isFinite outside le lt eq neg ofBits
 finite-is nan f = refl
 finite-is (inf true) f = refl
 finite-is (inf false) f = refl

@@ -3,7 +3,7 @@ use mathlib.Core.Bool.{Bool, false, not}
 use lib.Dec.{eqb}
 use lib.Ieee.{Float}
 use lib.IntN.{pos}
-use Rattle.scalar.specs.Arith.{if_then_else_, f0}
+use Rattle.scalar.specs.Arith.{if_then_else_, f32, f0}
 use Rattle.vector.specs.Vector.{origin}
 use Rattle.vector.specs.Rotation.{identity}
 use Rattle.vector.specs.Matrix.{zeroTensor}
@@ -12,6 +12,10 @@ use Rattle.vector.specs.declared.Quat.{Quat}
 use Rattle.solver_body.specs.declared.SolverBody.{SolverBody}
 use Rattle.solver_body.specs.declared.SolverBodyInertia.{SolverBodyInertia}
 use Rattle.solver_body.specs.declared.SolverBodyIndex.{SolverBodyIndex}
+
+-- 4,096: a position's coordinate may be as large, by refusals 12 and 13
+abbrev pub positionBound : Float
+positionBound = f32 0x4580_0000
 
 -- b with the displacement x and the turn q since the step began
 abbrev pub withDelta : SolverBody → Vec3 → Quat → SolverBody

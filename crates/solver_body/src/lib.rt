@@ -5,6 +5,9 @@ use vector::Vec3;
 ghost use mathlib.Core.Path.{_≡_};
 ghost use Rattle.solver_body.specs.Body.{unlocked, effectiveInvMass, isValid};
 
+// A position's coordinate may be as large: refusals 12 and 13.
+pub const POSITION_BOUND: f32 = 4096.0;
+
 // What a joint's `prepare` reads of a body.
 pub struct RigidBody {
     pub position: Vec3,

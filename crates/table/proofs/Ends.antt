@@ -16,12 +16,12 @@ use Rattle.tick.specs.Body.{restingBody, finishedBody}
 use Rattle.tick.specs.Joint.{noTotals}
 use Rattle.tick.specs.declared.body.BodyState.{BodyState}
 use Rattle.tick.specs.declared.joint.JointTotals.{JointTotals}
-use Rattle.card.specs.Layout.{maxBodies, maxJoints, bodyNumbers}
+use Rattle.card.specs.Layout.{maxBodies, maxJoints, bodyNumbers, totalsPlace}
 use Rattle.card.specs.Records.{dtOf}
 use Rattle.card.specs.declared.records.Header.{Header}
 use Rattle.card_records.specs.State.{numbers3}
 use Rattle.card_records.proofs.Writes.{sets-append}
-use Rattle.table.specs.Tick.{bodyStateNumbers, totalsPlace, totalsNumbers, storeTotals, anchoredAt, rigidAt, preSolve, before, newBody, storeBody}
+use Rattle.table.specs.Tick.{bodyStateNumbers, totalsNumbers, storeTotals, anchoredAt, rigidAt, preSolve, before, newBody, storeBody}
 use Rattle.table.specs.Parts.{rigidIn, finishedOr, storeMoving}
 use Rattle.table.specs.declared.load.TickBody.{TickBody}
 use Rattle.table.proofs.Loops.{getD-in, take-getD}

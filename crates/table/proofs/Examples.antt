@@ -1,7 +1,7 @@
 -- The tick of document 01's example card: all is computed.
 use mathlib.Core.Path.{refl}
 use lib.Ieee.{ofBits, ofFields, ofInt, add, sub, mul, div, neg, sum, round, units, odd, size, span, climb, le, lt, eq}
-use Rattle.scalar.specs.Scalar.{isFinite}
+use Rattle.scalar.specs.Scalar.{isFinite, outside}
 use Rattle.root.specs.Root.{rootOf, rootUnits, floorRoot, digits}
 use Rattle.vector.specs.Vector.{addOf, subOf, scaleOf, divOf, dotOf, crossOf, lengthSquaredOf, lengthOf}
 use Rattle.vector.specs.Rotation.{vectorPart, productOf, inverseOf, normalized, dividedBy, normOf, turnOf, ofScaledAxis}
@@ -9,7 +9,7 @@ use Rattle.solver_body.specs.Body.{unlocked}
 use Rattle.xpbd_plugin.specs.Plugin.{angularProjected, angularChange, linearProjected}
 use Rattle.card.specs.Bits.{bits16, bits24, bits32, floatAt, vec3At, quatAt}
 use Rattle.card.specs.Loop.{anyTo}
-use Rattle.card.specs.Fields.{floatIn, floatOf, outside, outOf}
+use Rattle.card.specs.Fields.{floatIn, floatOf, outOf}
 use Rattle.card.specs.Records.{headerAt, bodyBits, dtOf}
 use Rattle.card.specs.Checks as checks
 use Rattle.card_records.specs.Decode.{tensorAt, signed, movingInertia, inertiaAt, centerOfMassAt, bodyAt}

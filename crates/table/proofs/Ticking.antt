@@ -7,16 +7,16 @@ use mathlib.Core.List.{List, [], _∷_}
 use lib.ListN.{length, take}
 use lib.Seq.{sets}
 use lib.Dec.{T, eqb, eqb→eq}
-use lib.Ieee.{Float, lt, ofBits}
+use lib.Ieee.{Float, neg, le, lt, eq, ofBits}
 use borrow.Author.Tests.{eq-eqb, ne-eqb}
 use Rattle.scalar.specs.Arith.{if_then_else_}
-use Rattle.scalar.specs.Scalar.{isFinite}
+use Rattle.scalar.specs.Scalar.{isFinite, outside}
 use Rattle.tick.specs.Finite.{finite3, finite4}
 use Rattle.tick.specs.Body.{restingBody, tooFar, bodyFault}
 use Rattle.tick.specs.Joint.{noTotals}
 use Rattle.tick.specs.declared.body.BodyState.{BodyState}
 use Rattle.tick.specs.declared.joint.JointTotals.{JointTotals}
-use Rattle.card.specs.Layout.{stateLength}
+use Rattle.card.specs.Layout.{totalsPlace, stateLength}
 use Rattle.card.specs.Loop.{anyTo}
 use Rattle.card.proofs.Loops.{any-some}
 use Rattle.card.specs.Records.{headerAt}
@@ -26,7 +26,7 @@ use Rattle.card.specs.declared.records.Header.{Header}
 use Rattle.card_records.specs.State.{numberFault, stateFault, orElse, checkStateOf, Answered, answered}
 use Rattle.card_records.proofs.Starting.{state-refused, state-accepted}
 use Rattle.table.specs.Loop.{after}
-use Rattle.table.specs.Tick.{Solved, totalsPlace, totalsNumbers, storeTotals, anchoredAt, before, newBody, newFault, storeBody, stored, finished, tickAccepted}
+use Rattle.table.specs.Tick.{Solved, totalsNumbers, storeTotals, anchoredAt, before, newBody, newFault, storeBody, stored, finished, tickAccepted}
 use Rattle.table.specs.Run.{tickOf, tickNext, runOf}
 use Rattle.table.specs.Parts.{ticksOf}
 use Rattle.table.proofs.Loops.{after-none, after-more, after-done, after-kept, after-same, any-same, take-getD}
@@ -36,7 +36,7 @@ use Rattle.table.proofs.Ends.{made}
 -- ---- the new numbers
 
 resting-fine : bodyFault restingBody ≡ false
-unfolding bodyFault finite3 finite4 isFinite tooFar lt ofBits
+unfolding bodyFault finite3 finite4 isFinite tooFar outside neg le lt eq ofBits
 resting-fine = refl
 
 fault-as : (a : Bool) (b : BodyState) → bodyFault (if a then restingBody else b) ≡ (not a && bodyFault b)

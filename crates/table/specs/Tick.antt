@@ -24,7 +24,7 @@ use Rattle.tick.specs.Body.{solverBodyOf, integrated, finishedBody, bodyFault}
 use Rattle.tick.specs.Joint.{noTotals, totalsOf, warmValue, jointFinite}
 use Rattle.tick.specs.declared.body.BodyState.{BodyState}
 use Rattle.tick.specs.declared.joint.JointTotals.{JointTotals}
-use Rattle.card.specs.Layout.{maxBodies, maxJoints, bodyNumbers, jointNumbers}
+use Rattle.card.specs.Layout.{maxBodies, maxJoints, bodyNumbers, totalsPlace}
 use Rattle.card.specs.Loop.{anyTo}
 use Rattle.card.specs.Records.{bodyBits, jointBits, dtOf}
 use Rattle.card_records.specs.Decode.{inertiaAt, centerOfMassAt, jointAt}
@@ -54,9 +54,6 @@ bodyStateAt s i =
 
 abbrev pub bodyStateNumbers : BodyState → List Float
 bodyStateNumbers b = numbersOf (b .position) (b .rotation) (b .«linear_velocity») (b .«angular_velocity»)
-
-abbrev pub totalsPlace : ℕ → ℕ → ℕ
-totalsPlace bodies j = bodyNumbers * bodies + jointNumbers * j
 
 unfoldable pub totalsAt : List Float → ℕ → ℕ → JointTotals
 totalsAt s bodies j =

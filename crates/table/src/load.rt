@@ -2,11 +2,11 @@
 ghost use mathlib.Core.Path.{_≡_};
 ghost use Prim.Native.Nat.{_+_, _*_, _≤_, _<_};
 ghost use lib.ListN.{length};
-ghost use Rattle.card.specs.Layout.{maxBodies, bodyBytes, bodyPlace, bodyNumbers, jointNumbers};
-ghost use Rattle.table.specs.Tick.{vec3In, quatIn, bodyStateAt, totalsPlace, totalsAt};
+ghost use Rattle.card.specs.Layout.{maxBodies, bodyBytes, bodyPlace, bodyNumbers, jointNumbers, totalsPlace};
+ghost use Rattle.table.specs.Tick.{vec3In, quatIn, bodyStateAt, totalsAt};
 ghost use Rattle.table.specs.Parts.{rigidIn, indexOf, moved, cardBodyAt, integratedOr};
 use card::layout::BODY_NUMBERS;
-use card::layout::JOINT_NUMBERS;
+use card::layout::totals_place;
 use card::records::body_bits;
 use card_records::body::center_of_mass_at;
 use card_records::body::inertia_at;
@@ -83,7 +83,7 @@ pub fn totals_at(state: &[f32], bodies: usize, j: usize) -> JointTotals
     requires { ⌜ totalsPlace bodies j + jointNumbers ≤ length (now state) ⌝ }
     ensures { λ r. ⌜ r ≡ totalsAt (now (state .entry)) bodies j ⌝ }
 {
-    let at = BODY_NUMBERS * bodies + JOINT_NUMBERS * j;
+    let at = totals_place(bodies, j);
     JointTotals {
         first: vec3_in(state, at),
         second: vec3_in(state, at + 3),

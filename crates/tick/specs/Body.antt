@@ -1,12 +1,12 @@
 -- A moving body in a tick, but for its joints: document 01, 'One tick'. Definitions only.
 use mathlib.Core.Bool.{Bool, not, _&&_, _||_}
-use lib.Ieee.{Float, lt}
-use Rattle.scalar.specs.Arith.{_⊕_, _⊗_, f32}
-use Rattle.scalar.specs.Scalar.{absOf}
+use lib.Ieee.{Float, neg}
+use Rattle.scalar.specs.Arith.{_⊕_, _⊗_}
+use Rattle.scalar.specs.Scalar.{outside}
 use Rattle.vector.specs.Vector.{origin, addOf, subOf, scaleOf}
 use Rattle.vector.specs.Rotation.{identity, productOf, turnOf, normalized, ofScaledAxis}
 use Rattle.vector.specs.declared.Vec3.{Vec3}
-use Rattle.solver_body.specs.Body.{unlocked}
+use Rattle.solver_body.specs.Body.{positionBound, unlocked}
 use Rattle.solver_body.specs.declared.RigidBody.{RigidBody}
 use Rattle.solver_body.specs.declared.SolverBody.{SolverBody}
 use Rattle.solver_body.specs.declared.SolverBodyInertia.{SolverBodyInertia}
@@ -65,9 +65,9 @@ finishedBody r pre b h =
       «angular_velocity» = p .«angular_velocity»;
     }
 
--- over 4,096 in size
+-- not finite, or over 4,096 in size
 unfoldable pub tooFar : Float → Bool
-tooFar x = lt (f32 0x4580_0000) (absOf x)
+tooFar x = outside x (neg positionBound) positionBound
 
 -- refusal 13 at the end of a tick
 unfoldable pub bodyFault : BodyState → Bool

@@ -3,7 +3,8 @@ ghost use mathlib.Core.Path.{_≡_};
 ghost use Rattle.tick.specs.Body.{solverBodyOf, unlockedVelocity, integrated, projected, finishedBody, tooFar, bodyFault};
 use crate::finite::quat_finite;
 use crate::finite::vec3_finite;
-use scalar::abs;
+use scalar::outside;
+use solver_body::POSITION_BOUND;
 use solver_body::RigidBody;
 use solver_body::SolverBody;
 use solver_body::SolverBodyInertia;
@@ -57,7 +58,7 @@ impl BodyState {
 fn too_far(x: f32) -> bool
     ensures { λ r. ⌜ r ≡ tooFar x ⌝ }
 {
-    abs(x) > 4096.0
+    outside(x, -POSITION_BOUND, POSITION_BOUND)
 }
 
 fn unlocked_velocity(inertia: SolverBodyInertia, velocity: Vec3) -> Vec3

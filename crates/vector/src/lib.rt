@@ -7,7 +7,7 @@ use trig::sin_cos;
 ghost use mathlib.Core.Path.{_≡_};
 ghost use Rattle.vector.specs.Vector.{addOf, subOf, negOf, scaleOf, timesOf, divOf, dotOf, crossOf, lengthSquaredOf, lengthOf, maxElement, clampLengthMax, signum, anyOrthonormal, anyOrthogonal};
 ghost use Rattle.vector.specs.Matrix.{tensorTimes, ofQuat, matrixTimes};
-ghost use Rattle.vector.specs.Rotation.{productOf, inverseOf, vectorPart, turnOf, normOf, dividedBy, normalized, ofAxisAngle, ofScaledAxis};
+ghost use Rattle.vector.specs.Rotation.{productOf, inverseOf, vectorPart, turnOf, normSquaredOf, normOf, dividedBy, normalized, ofAxisAngle, ofScaledAxis};
 
 pub struct Vec3 {
     pub x: f32,
@@ -259,10 +259,16 @@ impl Quat {
             .add(b.cross(v).scale(w * 2.0))
     }
 
+    pub fn length_squared(self) -> f32
+        ensures { λ r. ⌜ r ≡ normSquaredOf self ⌝ }
+    {
+        self.x * self.x + self.y * self.y + self.z * self.z + self.w * self.w
+    }
+
     pub fn length(self) -> f32
         ensures { λ r. ⌜ r ≡ normOf self ⌝ }
     {
-        sqrt(self.x * self.x + self.y * self.y + self.z * self.z + self.w * self.w)
+        sqrt(self.length_squared())
     }
 
     pub fn div(self, k: f32) -> Quat

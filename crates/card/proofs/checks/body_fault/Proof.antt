@@ -23,6 +23,7 @@ returns-2 c =
     let c3 = c2 .before in
     let c4 = c3 .before in
     simp (
+      c4 .before .before .body-floats .ensures,
       c4 .enum-told .given .1,
       c3 .body-bits-fault .ensures,
       simp (c3 .body-bits-fault .ensures) at (c2 .if1 .left),
@@ -36,6 +37,7 @@ returns-3 c =
     let c1 = c .before in
     let c2 = c1 .before in
     simp (
+      c2 .before .before .body-floats .ensures,
       c2 .enum-told2 .given .1,
       c1 .body-bits2 .ensures,
       c .body-floats-fault2 .ensures,
@@ -51,6 +53,7 @@ returns-5 c =
     let c1 = c .before in
     let c2 = c1 .before in
     simp (
+      c2 .before .before .body-floats .ensures,
       c2 .enum-told4 .given .1,
       c1 .quat-at .ensures,
       c .rotation-fault .ensures,
@@ -64,7 +67,7 @@ pub body-fault-spec : {M : Type 1} → statement M
 body-fault-spec =
     tie.close
     (tie.spec
-    (λ c. search needs) (λ c. search needs) (λ c. search needs) (λ c. search needs) (λ c κs. search needs) returns
+    (λ c κs. search needs) (λ c. search needs) (λ c κs. search needs) returns
     (λ c κs. search needs) (λ c κs. search needs) (λ c. search needs) (λ c κs. search needs) (λ c κs. search needs)
     (λ c. search needs) (λ c. search needs) (λ c. search needs) (λ c. search needs) (λ c κs. search needs)
     (λ c κs. search needs) (λ c. search needs) returns-2 returns-3 returns-4 returns-5 returns-6)

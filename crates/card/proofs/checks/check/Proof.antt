@@ -1,6 +1,6 @@
 use Prim.Native.Nat.{ℕ, _≤_}
 use native.Mathlib.Omega.{arith}
-use mathlib.Core.Path.{_≡_}
+use mathlib.Core.Path.{_≡_, sym, _∙_}
 use mathlib.Core.List.{List}
 use borrow.Author.Needs.{needs}
 use borrow.Author.Tests.{lt-ltb, le-ltb, eq-eqb, ne-eqb}
@@ -37,10 +37,10 @@ past-4 : (c : tie.Else4) {n : ℕ} → Left 4 (at-3 (c .before .before)) n → n
 past-4 c f = past-3 (c .before .before) (passes (told (c .before .rate-fault .ensures) (c .if4 .left)) f)
 
 abbrev at-5 : tie.Else5 → tie.After-header-at
-at-5 c = at-3 (c .before .before .before)
+at-5 c = at-3 (c .before .before .before .before)
 
 past-5 : (c : tie.Else5) {n : ℕ} → Left 5 (at-5 c) n → n ≡ checkOf (card (at-5 c))
-past-5 c f = past-4 (c .before) (passes (rw (eq-eqb _ _ (c .if5 .left))) f)
+past-5 c f = past-4 (c .before .before) (passes (rw (eq-eqb _ _ (c .if5 .left ∙ c .before .joint-place .ensures))) f)
 
 past-6 : (c : tie.Else6) {n : ℕ} → Left 6 (at-5 (c .before .before)) n → n ≡ checkOf (card (at-5 (c .before .before)))
 past-6 c f = past-5 (c .before .before) (passes (told (c .before .record-fault .ensures) (c .if6 .left)) f)
@@ -71,7 +71,7 @@ returns-4 : tie.Need-returns-4
 returns-4 c = past-3 (c .before .before) (applies (told (c .before .rate-fault .ensures) (c .if4 .taken)))
 
 returns-5 : tie.Need-returns-5
-returns-5 c = past-4 (c .before) (applies (rw (ne-eqb _ _ (c .if5 .taken))))
+returns-5 c = past-4 (c .before .before) (applies (rw (ne-eqb _ _ (λ e. c .if5 .taken (e ∙ sym (c .before .joint-place .ensures))))))
 
 returns-6 : tie.Need-returns-6
 returns-6 c = past-5 (c .before .before) (applies (told (c .before .record-fault .ensures) (c .if6 .taken)))
@@ -102,6 +102,5 @@ check-spec =
     tie.close
     (tie.spec
     returns (λ c κs. search needs) returns-2 (λ c κs. search needs) returns-3 (λ c κs. search needs) returns-4
-    (λ c. omega (arith, few c)) (λ c. omega (arith, few c)) (λ c. omega (arith, few c)) (λ c. omega (arith, few c))
-    returns-5 (λ c κs. search needs) returns-6 (λ c κs. search needs) returns-7 (λ c κs. search needs) returns-8
+    (λ c κs. omega (arith, few c)) returns-5 (λ c κs. search needs) returns-6 (λ c κs. search needs) returns-7 (λ c κs. search needs) returns-8
     (λ c κs. search needs) returns-9 (λ c κs. search needs) returns-10 returns-11)

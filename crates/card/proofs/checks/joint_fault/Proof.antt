@@ -26,10 +26,11 @@ returns-2 c =
     let c3 = c2 .before in
     let c4 = c3 .before in
     simp (
+      c4 .before .joint-floats .ensures,
       c4 .joint-bits .ensures,
       c2 .enum-told3 .given .1,
       c1 .limit-fault .ensures,
-      simp (c1 .limit-fault .ensures) at (c .if2 .taken),
+      simp (c4 .before .joint-floats .ensures, c1 .limit-fault .ensures) at (c .if2 .taken),
     )
 
 returns-3 : tie.Need-returns-3
@@ -41,6 +42,7 @@ returns-3 c =
     let c4 = c3 .before in
     let c5 = c4 .before in
     simp (
+      c5 .before .joint-floats .ensures,
       c5 .joint-bits .ensures,
       c3 .enum-told .given .1,
       c2 .joint-bits-fault .ensures,
@@ -55,6 +57,7 @@ returns-4 c =
     let c2 = c1 .before in
     let c3 = c2 .before in
     simp (
+      c3 .before .joint-floats .ensures,
       c3 .joint-bits .ensures,
       c1 .enum-told2 .given .1,
       c .joint-floats-fault2 .ensures,
@@ -69,10 +72,11 @@ returns-5 c =
     let c4 = c3 .before in
     let c5 = c4 .before in
     simp (
+      c5 .before .joint-floats .ensures,
       c5 .joint-bits .ensures,
       c3 .enum-told3 .given .1,
       c2 .limit-fault .ensures,
-      simp (c2 .limit-fault .ensures) at (c1 .if2 .left),
+      simp (c5 .before .joint-floats .ensures, c2 .limit-fault .ensures) at (c1 .if2 .left),
       c .limit-fault2 .ensures,
     )
 
@@ -84,6 +88,7 @@ returns-6 c =
     let c3 = c2 .before in
     let c4 = c3 .before in
     simp (
+      c4 .before .joint-floats .ensures,
       c4 .joint-bits .ensures,
       c2 .enum-told4 .given .1,
       c1 .kind-of .ensures,
@@ -106,8 +111,7 @@ pub joint-fault-spec : {M : Type 1} → statement M
 joint-fault-spec =
     tie.close
     (tie.spec
-    (λ c. search needs) (λ c. search needs) (λ c. search needs) (λ c. search needs) (λ c. search needs)
-    (λ c κs. search needs) (λ c. search needs) (λ c κs. search needs) returns (λ c κs. search needs)
+    (λ c κs. search needs) (λ c κs. search needs) (λ c. search needs) (λ c κs. search needs) returns (λ c κs. search needs)
     (λ c. search needs) (λ c κs. search needs) (λ c. search needs) (λ c. search needs) (λ c. search needs)
     (λ c κs. search needs) returns-2 (λ c. search needs) (λ c. search needs) (λ c κs. search needs)
     (λ c. search needs) (λ c κs. search needs) (λ c κs. search needs) (λ c. search needs) (λ c κs. search needs)

@@ -10,6 +10,7 @@ returns c =
     let c2 = c1 .before in
     let c3 = c2 .before in
     simp (
+      c3 .before .body-floats .ensures,
       c3 .vec3-at .ensures,
       c2 .quat-at .ensures,
       c1 .vec3-at2 .ensures,
@@ -20,6 +21,6 @@ pub body-at-spec : {M : Type 1} → statement M
 body-at-spec =
     tie.close
     (tie.spec
-    (λ c. search needs) (λ c. search needs) (λ c. search needs) (λ c κs. search needs) (λ c. search needs)
+    (λ c κs. search needs) (λ c κs. search needs) (λ c. search needs)
     (λ c. search needs) (λ c κs. search needs) (λ c. search needs) (λ c. search needs) (λ c κs. search needs)
     (λ c. search needs) (λ c. search needs) (λ c κs. search needs) returns)

@@ -5,11 +5,10 @@ use Rattle.card_records.proofs.body.center_of_mass_at.Tie as tie
 
 returns : tie.Need-returns
 unfolding centerOfMassAt
-returns c = simp (c .vec3-at .ensures)
+returns c = simp (c .before .body-floats .ensures, c .vec3-at .ensures)
 
 pub center-of-mass-at-spec : {M : Type 1} → statement M
 center-of-mass-at-spec =
     tie.close
     (tie.spec
-    (λ c. search needs) (λ c. search needs) (λ c. search needs) (λ c. search needs) (λ c. search needs)
-    (λ c κs. search needs) returns)
+    (λ c κs. search needs) (λ c. search needs) (λ c. search needs) (λ c κs. search needs) returns)

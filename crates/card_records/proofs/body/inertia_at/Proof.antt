@@ -16,11 +16,12 @@ returns c =
 returns-2 : tie.Need-returns-2
 unfolding inertiaAt
 returns-2 c =
-    let c1 = c .before in
+    let c1 = c .before .before in
     let c2 = c1 .before in
     simp (
       c2 .body-bits .ensures,
       simp (c2 .body-bits .ensures) at (c1 .if1 .left),
+      c .before .body-floats .ensures,
       c .moving-inertia .ensures,
     )
 
@@ -28,5 +29,5 @@ pub inertia-at-spec : {M : Type 1} → statement M
 inertia-at-spec =
     tie.close
     (tie.spec
-    (λ c κs. search needs) returns (λ c. search needs) (λ c. search needs) (λ c. search needs)
-    (λ c κs. (search needs, rw (c .before .body-bits .ensures) (dominance-byte _ _))) returns-2)
+    (λ c κs. search needs) returns (λ c κs. search needs)
+    (λ c κs. (search needs, rw (c .before .before .body-bits .ensures) (dominance-byte _ _))) returns-2)

@@ -8,7 +8,8 @@ unfolding jointAt
 returns c =
     let c1 = c .before in
     simp (
-      c1 .joint-bits .ensures,
+      c1 .before .joint-bits .ensures,
+      c1 .joint-floats .ensures,
       c .joint-of .ensures,
     )
 
@@ -16,5 +17,4 @@ pub joint-at-spec : {M : Type 1} → statement M
 joint-at-spec =
     tie.close
     (tie.spec
-    (λ c κs. search needs) (λ c. search needs) (λ c. search needs) (λ c. search needs) (λ c. search needs)
-    (λ c. search needs) (λ c κs. search needs) returns)
+    (λ c κs. search needs) (λ c κs. search needs) (λ c κs. search needs) returns)

@@ -10,6 +10,7 @@ returns c =
     let c2 = c1 .before in
     let c3 = c2 .before in
     simp (
+      c3 .before .totals-place .ensures,
       c3 .vec3-in .ensures,
       c2 .vec3-in2 .ensures,
       c1 .vec3-in3 .ensures,
@@ -17,4 +18,4 @@ returns c =
     )
 
 pub totals-at-spec : {M : Type 1} → statement M
-totals-at-spec = tie.close (tie.spec (λ c. omega arith) (λ c. omega arith) (λ c. omega arith) (λ c κs. omega arith) (λ c. omega arith) (λ c κs. omega arith) (λ c. omega arith) (λ c κs. omega arith) (λ c. omega arith) (λ c κs. omega arith) returns)
+totals-at-spec = tie.close (tie.spec (λ c κs. omega arith) (λ c κs. omega arith) (λ c. omega arith) (λ c κs. omega arith) (λ c. omega arith) (λ c κs. omega arith) (λ c. omega arith) (λ c κs. omega arith) returns)

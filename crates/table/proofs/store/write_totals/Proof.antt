@@ -1,5 +1,5 @@
 use borrow.Author.Needs.{needs}
-use Rattle.table.specs.Tick.{totalsPlace}
+use Rattle.card.specs.Layout.{totalsPlace}
 use Rattle.table.proofs.Ends.{totals-written}
 use Rattle.table.proofs.store.write_totals.Statement.{statement}
 use Rattle.table.proofs.store.write_totals.Tie as tie
