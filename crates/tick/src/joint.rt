@@ -128,15 +128,14 @@ fn solve_revolute(
     joint: RevoluteJoint,
     body1: RigidBody,
     body2: RigidBody,
-    warm_value: Vec3,
     bodies: BodyPair,
     inertia1: SolverBodyInertia,
     inertia2: SolverBodyInertia,
     dt: f32,
 ) -> JointKept
-    ensures { λ r. ⌜ r ≡ keptOf (jointSolved (jointPrepared (kind.Revolute joint) body1 body2 «warm_value») bodies inertia1 inertia2 dt) ⌝ }
+    ensures { λ r. ⌜ r ≡ keptOf (jointSolved (jointPrepared (kind.Revolute joint) body1 body2 origin) bodies inertia1 inertia2 dt) ⌝ }
 {
-    let prepared = revolute::prepare(joint, body1, body2, warm_value);
+    let prepared = revolute::prepare(joint, body1, body2, Vec3::ZERO);
     let solved = revolute::solve(joint, prepared, bodies, inertia1, inertia2, dt);
     let data = solved.solver_data;
     let moved = solved.bodies;
@@ -161,15 +160,14 @@ fn solve_prismatic(
     joint: PrismaticJoint,
     body1: RigidBody,
     body2: RigidBody,
-    warm_value: Vec3,
     bodies: BodyPair,
     inertia1: SolverBodyInertia,
     inertia2: SolverBodyInertia,
     dt: f32,
 ) -> JointKept
-    ensures { λ r. ⌜ r ≡ keptOf (jointSolved (jointPrepared (kind.Prismatic joint) body1 body2 «warm_value») bodies inertia1 inertia2 dt) ⌝ }
+    ensures { λ r. ⌜ r ≡ keptOf (jointSolved (jointPrepared (kind.Prismatic joint) body1 body2 origin) bodies inertia1 inertia2 dt) ⌝ }
 {
-    let prepared = prismatic::prepare(joint, body1, body2, warm_value.x);
+    let prepared = prismatic::prepare(joint, body1, body2, 0.0);
     let solved = prismatic::solve(joint, prepared, bodies, inertia1, inertia2, dt);
     let data = solved.solver_data;
     let moved = solved.bodies;
@@ -261,13 +259,12 @@ fn solve_by_kind(
     joint: Joint,
     body1: RigidBody,
     body2: RigidBody,
-    warm_value: Vec3,
     bodies: BodyPair,
     inertia1: SolverBodyInertia,
     inertia2: SolverBodyInertia,
     dt: f32,
 ) -> JointKept
-    ensures { λ r. ⌜ r ≡ keptOf (jointSolved (jointPrepared joint body1 body2 «warm_value») bodies inertia1 inertia2 dt) ⌝ }
+    ensures { λ r. ⌜ r ≡ keptOf (jointSolved (jointPrepared joint body1 body2 origin) bodies inertia1 inertia2 dt) ⌝ }
 {
     match joint {
         Joint::Fixed(fixed) => solve_fixed(fixed, body1, body2, bodies, inertia1, inertia2, dt),
@@ -275,7 +272,6 @@ fn solve_by_kind(
             revolute,
             body1,
             body2,
-            warm_value,
             bodies,
             inertia1,
             inertia2,
@@ -285,7 +281,6 @@ fn solve_by_kind(
             prismatic,
             body1,
             body2,
-            warm_value,
             bodies,
             inertia1,
             inertia2,
@@ -335,28 +330,19 @@ fn tested(kept: JointKept) -> JointResult
     }
 }
 
+// The solve reads no warm value: zero stands in for it.
 pub fn solve_joint(
     joint: Joint,
     body1: RigidBody,
     body2: RigidBody,
-    warm_value: Vec3,
     bodies: BodyPair,
     inertia1: SolverBodyInertia,
     inertia2: SolverBodyInertia,
     dt: f32,
 ) -> JointResult
-    ensures { λ r. ⌜ r ≡ resultOf (jointSolved (jointPrepared joint body1 body2 «warm_value») bodies inertia1 inertia2 dt) ⌝ }
+    ensures { λ r. ⌜ r ≡ resultOf (jointSolved (jointPrepared joint body1 body2 origin) bodies inertia1 inertia2 dt) ⌝ }
 {
-    tested(solve_by_kind(
-        joint,
-        body1,
-        body2,
-        warm_value,
-        bodies,
-        inertia1,
-        inertia2,
-        dt,
-    ))
+    tested(solve_by_kind(joint, body1, body2, bodies, inertia1, inertia2, dt))
 }
 
 pub fn warm_start_joint(
