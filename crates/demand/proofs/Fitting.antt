@@ -15,7 +15,7 @@ use Rattle.xpbd_joints.specs.Revolute as hinge
 use Rattle.xpbd_joints.specs.Prismatic as slide
 use Rattle.xpbd_joints.specs.declared.revolute.RevoluteSolved.{RevoluteSolved}
 use Rattle.xpbd_joints.specs.declared.prismatic.PrismaticSolved.{PrismaticSolved}
-use Rattle.xpbd_plugin.specs.Joint.{jointWarmStarted, jointSolved}
+use Rattle.xpbd_plugin.specs.Joint.{jointWarmStarted, jointSolved, noTotals}
 use Rattle.xpbd_plugin.specs.declared.PreparedJoint.{PreparedJoint}
 use Rattle.xpbd_plugin.specs.declared.PreparedJoint.the-variants.{Fixed, Revolute, Prismatic, Spherical, Distance}
 use Rattle.stages.specs.Steps.{Setting, Run}
@@ -28,7 +28,7 @@ use Rattle.card.specs.Records.{bodyBits, dtOf}
 use Rattle.card_records.specs.Decode.{inertiaAt}
 use Rattle.card.specs.declared.records.Header.{Header}
 use Rattle.tick.specs.Body.{solverBodyOf, integrated}
-use Rattle.tick.specs.Joint.{noTotals, jointFinite}
+use Rattle.tick.specs.Joint.{jointFinite}
 use Rattle.tick.specs.declared.body.BodyState.{BodyState}
 use Rattle.table.specs.Tick.{Solved, bodyStateAt, firstBody, secondBody, inertiasAt, preparedAt, putMoving, pairAt, putPair, loadNext, warmStartNext, integrateNext, loaded, warmStarted, preSolve, solvedAt, putSolved, stop, solveNext, before}
 use Rattle.table.proofs.Loops.{after-all}

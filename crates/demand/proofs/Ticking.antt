@@ -9,6 +9,7 @@ use lib.Dec.{T, eqb, eqb→eq}
 use lib.Ieee.{Float}
 use lib.Ieee.Fits.{eq→eqb}
 use Rattle.scalar.specs.Arith.{if_then_else_}
+use Rattle.xpbd_plugin.specs.Joint.{noTotals}
 use Rattle.stages.specs.Steps.{run}
 use Rattle.stages.specs.Any.{runOf}
 use Rattle.stages.proofs.Sound.{EventSound, All}
@@ -20,7 +21,7 @@ use Rattle.card.specs.Checks.{checkOf}
 use Rattle.card.proofs.Accepted.{accepted}
 use Rattle.card_records.specs.State.{checkStateOf, answered}
 use Rattle.card.specs.declared.records.Header.{Header}
-use Rattle.tick.specs.Joint.{noTotals, jointFinite}
+use Rattle.tick.specs.Joint.{jointFinite}
 use Rattle.table.specs.Loop.{after}
 use Rattle.table.specs.Tick.{Solved, preparedAt, pairAt, preSolve, solvedAt, putSolved, stop, solveNext, before, newFault, stored, finished, tickAccepted}
 use Rattle.table.specs.Run.{tickOf}

@@ -2,9 +2,10 @@
 use Prim.Native.Nat.{ℕ}
 use mathlib.Core.List.{List}
 use lib.Ieee.{Float}
+use Rattle.xpbd_plugin.specs.Joint.{totalsOf}
 use Rattle.xpbd_plugin.specs.declared.JointSolved.{JointSolved}
 use Rattle.stages.specs.Steps.{Step, Setting, Run, Event, events}
-use Rattle.stages.specs.Any.{totalsOf, stepsOf}
+use Rattle.stages.specs.Any.{stepsOf}
 use Rattle.card.specs.Records.{headerAt, dtOf}
 use Rattle.table.specs.Tick.{inertiasAt, preparedAt, pairAt, solvedAt, before}
 

@@ -1,11 +1,11 @@
 -- Any joint's solve is the run of its steps, and where its end is finite, each of its stages and pushes is sound.
 use mathlib.Core.Path.{_≡_, sym, subst}
 use Rattle.solver_body.specs.declared.BodyPair.{BodyPair}
-use Rattle.xpbd_plugin.specs.Joint.{jointSolved}
+use Rattle.xpbd_plugin.specs.Joint.{jointSolved, totalsOf}
 use Rattle.xpbd_plugin.specs.declared.PreparedJoint.{PreparedJoint}
 use Rattle.xpbd_plugin.specs.declared.PreparedJoint.the-variants.{Fixed, Revolute, Prismatic, Spherical, Distance}
 use Rattle.stages.specs.Steps.{Setting, run, events}
-use Rattle.stages.specs.Any.{totalsOf, stepsOf, runOf}
+use Rattle.stages.specs.Any.{stepsOf, runOf}
 pub use Rattle.stages.specs.Any.{startOf}
 use Rattle.stages.proofs.Same.{fixed-is-steps, hinge-is-steps, slide-is-steps, ball-is-steps, tether-is-steps}
 use Rattle.stages.proofs.Back.{Calm}

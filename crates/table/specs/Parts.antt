@@ -16,11 +16,11 @@ use Rattle.solver_body.specs.declared.SolverBodyInertia.{SolverBodyInertia}
 use Rattle.solver_body.specs.declared.BodyPair.{BodyPair}
 use Rattle.xpbd_plugin.specs.Plugin.{dominatedOf}
 use Rattle.xpbd_plugin.specs.Joint.{jointPrepared, jointWarmStarted, jointSolved}
+use Rattle.xpbd_plugin.specs.declared.JointTotals.{JointTotals}
 use Rattle.tick.specs.Body.{integrated, restingBody, finishedBody}
 use Rattle.tick.specs.Joint.{warmValue}
 use Rattle.tick.specs.Parts.{resultOf}
 use Rattle.tick.specs.declared.body.BodyState.{BodyState}
-use Rattle.tick.specs.declared.joint.JointTotals.{JointTotals}
 use Rattle.tick.specs.declared.joint.JointResult.{JointResult}
 use Rattle.card.specs.Layout.{bodyNumbers}
 use Rattle.card_records.specs.Decode.{inertiaAt, centerOfMassAt}

@@ -11,8 +11,8 @@ use solver_body::RigidBody;
 use solver_body::SolverBodyInertia;
 use tick::joint;
 use tick::joint::JointResult;
-use tick::joint::JointTotals;
 use vector::Vec3;
+use xpbd_plugin::JointTotals;
 use xpbd_plugin::dominated;
 
 // Where there is no joint: a tether of body 0 with itself.

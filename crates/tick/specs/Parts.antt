@@ -1,8 +1,9 @@
 -- What the parts of a joint's solve hand to each other, for their own contracts: Joint.antt needs none of it.
 use mathlib.Core.Bool.{_&&_}
+use Rattle.xpbd_plugin.specs.Joint.{totalsOf}
 use Rattle.xpbd_plugin.specs.declared.JointSolved.{JointSolved}
 use Rattle.tick.specs.Finite.{bodyFinite}
-use Rattle.tick.specs.Joint.{totalsOf, preparedFinite, totalsFinite, jointFinite}
+use Rattle.tick.specs.Joint.{preparedFinite, totalsFinite, jointFinite}
 use Rattle.tick.specs.declared.joint.JointKept.{JointKept}
 use Rattle.tick.specs.declared.joint.JointResult.{JointResult}
 

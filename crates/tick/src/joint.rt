@@ -1,4 +1,4 @@
-// A joint in a tick: its warm start and its solve by kind, its totals, and whether all numbers are finite.
+// A joint in a tick: its warm start and its solve by kind, and whether all numbers are finite.
 ghost use mathlib.Core.Path.{_≡_};
 ghost use Rattle.vector.specs.Vector.{origin};
 ghost use Rattle.joints.specs.declared.Joint.the-variants as kind;
@@ -24,32 +24,7 @@ use xpbd_joints::fixed;
 use xpbd_joints::prismatic;
 use xpbd_joints::revolute;
 use xpbd_joints::spherical;
-
-// A joint's 12 numbers in the state.
-pub struct JointTotals {
-    pub first: Vec3,
-    pub second: Vec3,
-    pub third: Vec3,
-    pub fourth: Vec3,
-}
-
-impl JointTotals {
-    pub const ZERO: JointTotals = JointTotals {
-        first: Vec3::ZERO,
-        second: Vec3::ZERO,
-        third: Vec3::ZERO,
-        fourth: Vec3::ZERO,
-    };
-
-    fn finite(self) -> bool
-        ensures { λ r. ⌜ r ≡ totalsFinite self ⌝ }
-    {
-        vec3_finite(self.first)
-            & vec3_finite(self.second)
-            & vec3_finite(self.third)
-            & vec3_finite(self.fourth)
-    }
-}
+use xpbd_plugin::JointTotals;
 
 // The last motor total over dt; a prismatic joint's is its x.
 pub fn warm_value(joint: Joint, totals: JointTotals, dt: f32) -> Vec3
@@ -84,6 +59,15 @@ fn axes_finite(a1: Vec3, a2: Vec3, b1: Vec3, b2: Vec3) -> bool
     ensures { λ r. ⌜ r ≡ axesFinite a1 a2 b1 b2 ⌝ }
 {
     vec3_finite(a1) & vec3_finite(a2) & vec3_finite(b1) & vec3_finite(b2)
+}
+
+fn totals_finite(totals: JointTotals) -> bool
+    ensures { λ r. ⌜ r ≡ totalsFinite totals ⌝ }
+{
+    vec3_finite(totals.first)
+        & vec3_finite(totals.second)
+        & vec3_finite(totals.third)
+        & vec3_finite(totals.fourth)
 }
 
 // What a tick keeps of a joint's solve, before the test of the totals and the bodies.
@@ -322,7 +306,7 @@ fn tested(kept: JointKept) -> JointResult
     let totals = kept.totals;
     JointResult {
         finite: kept.prepared_finite
-            & totals.finite()
+            & totals_finite(totals)
             & body_finite(bodies.body1)
             & body_finite(bodies.body2),
         bodies,
