@@ -12,7 +12,7 @@ use Rattle.solver_body.specs.declared.SolverBody.{SolverBody}
 use Rattle.xpbd_plugin.specs.Joint.{totalsOf}
 use Rattle.xpbd_plugin.specs.declared.JointSolved.{JointSolved}
 use Rattle.xpbd_plugin.specs.declared.JointTotals.{JointTotals}
-use Rattle.stages.specs.Any.{runOf}
+use Rattle.stages.specs.Any.{solveRun}
 use Rattle.stages.proofs.Vec.{Finite3}
 use Rattle.stages.proofs.Back.{AllTotals, Calm}
 use Rattle.tick.specs.Finite.{finite3, finite4, bodyFinite}
@@ -52,7 +52,7 @@ totals-finite t h =
       f₄ = vector-finite (t .fourth) (and-r (a && b && c) d h);
     }
 
-pub solve-calm : (s : JointSolved) → T (jointFinite s) → Calm (runOf s)
+pub solve-calm : (s : JointSolved) → T (jointFinite s) → Calm (solveRun s)
 unfolding jointFinite
 solve-calm s h =
     let p = preparedFinite (s .joint) in

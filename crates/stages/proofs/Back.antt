@@ -21,7 +21,7 @@ use Rattle.xpbd_joints.specs.Prismatic.{drivenAlong}
 use Rattle.laws.proofs.Place.{real}
 use Rattle.laws.proofs.Between.{finite-add}
 use Rattle.xpbd_plugin.specs.declared.JointTotals.{JointTotals}
-use Rattle.stages.specs.Stage.{positional, Stage, correctionOf, impulseOf, multiplierOf, appliedTo, afterOf}
+use Rattle.stages.specs.Stage.{positional, Stage, correctionOf, totalChange, multiplierOf, appliedTo, afterOf}
 use Rattle.stages.specs.Steps.{Slot, first, second, third, fourth, added, Step, compliant, hingeMotor, slideMotor, Setting, Run, stageAt, isCalled, uncalled, hingeGiven, slideGiven, hingeDriven, slideDriven, stepped, run, pushMultiplier}
 use Rattle.stages.proofs.Vec.{Finite3, add-back3, sub-back3, scale-back}
 
@@ -62,7 +62,7 @@ angular-back b I₁ I₂ p h = record { d₁ = h .d₁; d₂ = h .d₂ }
 
 applied-back : (q : Bool) (s : Stage) → Still (appliedTo q s) → Still (s .entry .bodies)
 applied-back true s h =
-    impulse-back (s .entry .bodies) (s .entry .inertia1) (s .entry .inertia2) (impulseOf s) (correctionOf (s .entry) .r₁) (correctionOf (s .entry) .r₂) h
+    impulse-back (s .entry .bodies) (s .entry .inertia1) (s .entry .inertia2) (totalChange s) (correctionOf (s .entry) .r₁) (correctionOf (s .entry) .r₂) h
 applied-back false s h =
     angular-back (s .entry .bodies) (s .entry .inertia1 .«inv_angular_inertia») (s .entry .inertia2 .«inv_angular_inertia») (scaleOf (correctionOf (s .entry) .n) (neg (multiplierOf s))) h
 
@@ -77,10 +77,10 @@ uncalled-back false l r h = record { still = h .still; totals = added-back l ori
 
 -- v says whether the stage was called
 pub done-back : (v : Bool) (l : Slot) (s : Stage) (r : Run) → s .entry .bodies ≡ r .bodies
-    → Calm (if v then record { bodies = afterOf s; totals = added l (impulseOf s) (r .totals) } else uncalled (correctionOf (s .entry) .still) l r)
-    → Calm r × (T v → Finite3 (impulseOf s))
+    → Calm (if v then record { bodies = afterOf s; totals = added l (totalChange s) (r .totals) } else uncalled (correctionOf (s .entry) .still) l r)
+    → Calm r × (T v → Finite3 (totalChange s))
 done-back true l s r e h =
-    let k = added-back l (impulseOf s) (r .totals) (h .totals) in
+    let k = added-back l (totalChange s) (r .totals) (h .totals) in
     (record { still = rw e at (after-back s (h .still)); totals = k .0 }, λ _. k .1)
 done-back false l s r e h = (uncalled-back (correctionOf (s .entry) .still) l r h, λ x. absurd x)
 

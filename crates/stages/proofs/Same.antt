@@ -54,7 +54,7 @@ use Rattle.xpbd_joints.specs.declared.distance.DistanceSolved.{DistanceSolved}
 use Rattle.xpbd_plugin.specs.Joint.{totals, totalsOf}
 use Rattle.xpbd_plugin.specs.declared.PreparedJoint.the-variants.{Fixed, Revolute, Prismatic, Spherical, Distance}
 use Rattle.xpbd_plugin.specs.declared.JointTotals.{JointTotals}
-use Rattle.stages.specs.Stage.{Reads, fixedPoint, fixedAngle, hingePoint, hingeAlign, hingeLimit, slideAngle, slideAlign, ballPoint, ballSwing, ballTwist, Entry, Correction, limitAsked, pointAsked, angleAsked, correctionOf, multiplierOf, impulseOf, afterOf}
+use Rattle.stages.specs.Stage.{Reads, fixedPoint, fixedAngle, hingePoint, hingeAlign, hingeLimit, slideAngle, slideAlign, ballPoint, ballSwing, ballTwist, Entry, Correction, limitAsked, pointAsked, angleAsked, correctionOf, multiplierOf, totalChange, afterOf}
 use Rattle.stages.specs.Steps.{Slot, first, second, third, fourth, at, put, added, Step, compliant, hingeMotor, slideMotor, Setting, Run, stageAt, uncalled, stepped, run}
 use Rattle.stages.specs.Joints.{fixedSteps, hingeLimitSteps, hingeSteps, slideSteps, swingSteps, twistSteps, ballSteps, tetherSteps}
 
@@ -119,13 +119,13 @@ limited S k l (limit.Some d) α b t = rotation S k l d α b t
 
 hinge-align : (S : Setting) (a₁ a₂ : Vec3) (α : Float) (b : BodyPair) (t : JointTotals)
     → stepped S (compliant second (hingeAlign a₁ a₂) α) (from b t) ≡ stageRun second t (axesStage b (I₁ S) (I₂ S) a₁ a₂ (t .second) α (S .dt))
-unfolding axesStage correctionOf afterOf impulseOf multiplierOf
+unfolding axesStage correctionOf afterOf totalChange multiplierOf
 hinge-align S a₁ a₂ α b t =
     rotation S (hingeAlign a₁ a₂) second (crossOf (turnOf (b .body1 .«delta_rotation») a₁) (turnOf (b .body2 .«delta_rotation») a₂)) α b t
 
 hinge-limit : (S : Setting) (o : AngleLimitOption) (a₁ b₁ b₂ : Vec3) (α : Float) (P : List Step) (b : BodyPair) (t : JointTotals)
     → run S (hingeLimitSteps o a₁ b₁ b₂ α ++ P) (from b t) ≡ run S P (stageRun third t (angleLimitStage o b (I₁ S) (I₂ S) a₁ b₁ b₂ (t .third) α (S .dt)))
-unfolding run angleLimitStage correctionOf afterOf impulseOf multiplierOf
+unfolding run angleLimitStage correctionOf afterOf totalChange multiplierOf
 hinge-limit S Unlimited a₁ b₁ b₂ α P b t = refl
 hinge-limit S (Limited l) a₁ b₁ b₂ α P b t =
     let q₁ = b .body1 .«delta_rotation» in
@@ -133,14 +133,14 @@ hinge-limit S (Limited l) a₁ b₁ b₂ α P b t =
 
 swing : (S : Setting) (o : AngleLimitOption) (a₁ a₂ : Vec3) (α : Float) (P : List Step) (b : BodyPair) (t : JointTotals)
     → run S (swingSteps o a₁ a₂ α ++ P) (from b t) ≡ run S P (stageRun second t (swingStage o b (I₁ S) (I₂ S) a₁ a₂ (t .second) α (S .dt)))
-unfolding run swingStage correctionOf afterOf impulseOf multiplierOf
+unfolding run swingStage correctionOf afterOf totalChange multiplierOf
 swing S Unlimited a₁ a₂ α P b t = refl
 swing S (Limited l) a₁ a₂ α P b t =
     ap (run S P) (limited S (ballSwing l a₁ a₂) second (swingCorrection l (turnOf (b .body1 .«delta_rotation») a₁) (turnOf (b .body2 .«delta_rotation») a₂)) α b t)
 
 twist : (S : Setting) (o : AngleLimitOption) (a₁ a₂ b₁ b₂ : Vec3) (α : Float) (b : BodyPair) (t : JointTotals)
     → run S (twistSteps o a₁ a₂ b₁ b₂ α) (from b t) ≡ stageRun third t (twistStage o b (I₁ S) (I₂ S) a₁ a₂ b₁ b₂ (t .third) α (S .dt))
-unfolding run twistStage correctionOf afterOf impulseOf multiplierOf
+unfolding run twistStage correctionOf afterOf totalChange multiplierOf
 twist S Unlimited a₁ a₂ b₁ b₂ α b t = refl
 twist S (Limited l) a₁ a₂ b₁ b₂ α b t =
     let q₁ = b .body1 .«delta_rotation» in
@@ -161,11 +161,11 @@ AngleIs name =
     → stepped S (compliant second (name (c .«rotation_difference»)) α) (from b t) ≡ angleRun t (angleSolved c b (I₁ S) (I₂ S) α (S .dt))
 
 fixed-angle : AngleIs fixedAngle
-unfolding correctionOf afterOf impulseOf multiplierOf
+unfolding correctionOf afterOf totalChange multiplierOf
 fixed-angle S c = angle S (fixedAngle (c .«rotation_difference»)) c
 
 slide-angle : AngleIs slideAngle
-unfolding correctionOf afterOf impulseOf multiplierOf
+unfolding correctionOf afterOf totalChange multiplierOf
 slide-angle S c = angle S (slideAngle (c .«rotation_difference»)) c
 
 -- ---- position stages
@@ -193,21 +193,21 @@ PointIs name =
     → stepped S (compliant first (name (c .«world_r1») (c .«world_r2») (c .«center_difference»)) α) (from b t) ≡ pointRun t (pointSolved c b (S .inertia1) (S .inertia2) α (S .dt))
 
 fixed-point : PointIs fixedPoint
-unfolding correctionOf afterOf impulseOf multiplierOf
+unfolding correctionOf afterOf totalChange multiplierOf
 fixed-point S c = point S (fixedPoint (c .«world_r1») (c .«world_r2») (c .«center_difference»)) c
 
 hinge-point : PointIs hingePoint
-unfolding correctionOf afterOf impulseOf multiplierOf
+unfolding correctionOf afterOf totalChange multiplierOf
 hinge-point S c = point S (hingePoint (c .«world_r1») (c .«world_r2») (c .«center_difference»)) c
 
 ball-point : PointIs ballPoint
-unfolding correctionOf afterOf impulseOf multiplierOf
+unfolding correctionOf afterOf totalChange multiplierOf
 ball-point S c = point S (ballPoint (c .«world_r1») (c .«world_r2») (c .«center_difference»)) c
 
 slide-align : (S : Setting) (o : DistanceLimitOption) (r₁ r₂ d axis : Vec3) (α : Float) (b : BodyPair) (t : JointTotals)
     → stepped S (compliant first (slideAlign o r₁ r₂ d axis) α) (from b t)
     ≡ stageRun first t (positionStage o b (S .inertia1) (S .inertia2) r₁ r₂ d axis (t .first) α (S .dt))
-unfolding positionStage correctionImpulse positionCorrected correctionOf afterOf impulseOf multiplierOf
+unfolding positionStage correctionImpulse positionCorrected correctionOf afterOf totalChange multiplierOf
 slide-align S o r₁ r₂ d axis α b t =
     let v = le (lengthOf (slideCorrection o (apart b r₁ r₂ d) (turnOf (b .body1 .«delta_rotation») axis))) epsilon in
     swap v _ _ ∙ sym (through (stageRun first t) v _ _)
@@ -311,7 +311,7 @@ tetherRun j s = from (s .bodies) (totalsOf (Distance j (s .«solver_data»)))
 
 pub tether-is-steps : (S : Setting) (j : DistanceJoint) (k : DistanceJointSolverData) (b : BodyPair)
     → run S (tetherSteps j k) (from b (totalsOf (Distance j k))) ≡ tetherRun j (distanceSolved j k b (S .inertia1) (S .inertia2) (S .dt))
-unfolding run distanceSolved totalsOf correctionImpulse positionCorrected correctionOf afterOf impulseOf multiplierOf
+unfolding run distanceSolved totalsOf correctionImpulse positionCorrected correctionOf afterOf totalChange multiplierOf
 tether-is-steps S j k b =
     let v = le (distanceCorrection (j .limits) (apart b (k .«world_r1») (k .«world_r2») (k .«center_difference»)) .magnitude) epsilon in
     swap v _ _ ∙ sym (through (tetherRun j) v _ _)

@@ -34,7 +34,7 @@ use Rattle.xpbd_joints.specs.Revolute.{drivenBy, angularMotorGiven}
 use Rattle.xpbd_joints.specs.Prismatic.{drivenAlong, linearMotorGiven, slideCorrection}
 use Rattle.xpbd_joints.specs.Spherical.{swingCorrection, twistCorrection}
 use Rattle.laws.proofs.Place.{real, Held}
-use Rattle.stages.specs.Stage.{Reads, fixedPoint, fixedAngle, hingePoint, hingeAlign, hingeLimit, slideAngle, slideAlign, ballPoint, ballSwing, ballTwist, tether, positional, Entry, Stage, limitAsked, turned₁, turned₂, between, asked, correctionOf, impulseOf, appliedTo, afterOf}
+use Rattle.stages.specs.Stage.{Reads, fixedPoint, fixedAngle, hingePoint, hingeAlign, hingeLimit, slideAngle, slideAlign, ballPoint, ballSwing, ballTwist, tether, positional, Entry, Stage, limitAsked, turned₁, turned₂, separation, asked, correctionOf, totalChange, appliedTo, afterOf}
 use Rattle.stages.specs.Steps.{Slot, added, Step, compliant, hingeMotor, slideMotor, Setting, Run, stageAt, isCalled, uncalled, hingeGiven, slideGiven, hingeDriven, slideDriven, stepped, run, MotorPush, pushMultiplier, Event, aStage, aPush, eventsOf, events}
 use Rattle.stages.proofs.Vec.{Finite3, Fits3, Held3, held3, add-fits3, sub-fits3, div-fits3, origin-fits3, root-fits, length-squared-fits, length-fits}
 use Rattle.stages.proofs.Back.{Calm, done-back, hinge-back, slide-back, run-back}
@@ -44,7 +44,7 @@ pub record SoundStage (s : Stage) : Type 0 where
   pub n-fits : Fits3 (correctionOf (s .entry) .n)
   pub soft-fits : T (fits binary32 (s .compliance))
   pub soft-up : T (le f0 (s .compliance))
-  pub impulse : Finite3 (impulseOf s)
+  pub change : Finite3 (totalChange s)
   pub d₁ : Held3 (s .entry .bodies .body1 .«delta_position»)
   pub d₂ : Held3 (s .entry .bodies .body2 .«delta_position»)
   pub q₁ : Held3 (effectiveInvMass (s .entry .inertia1))
@@ -126,17 +126,17 @@ abbrev apart : Entry → Quat → Vec3
 apart e q = rotationDifference q (e .bodies .body1 .«delta_rotation») (e .bodies .body2 .«delta_rotation»)
 
 asked-fits : (k : Reads) (e : Entry) → FitAsked (asked k e .error) (asked k e .n)
-asked-fits (fixedPoint a b d) e = point-fits (between e a b d)
+asked-fits (fixedPoint a b d) e = point-fits (separation e a b d)
 asked-fits (fixedAngle q) e = rotation-fits (apart e q)
-asked-fits (hingePoint a b d) e = point-fits (between e a b d)
+asked-fits (hingePoint a b d) e = point-fits (separation e a b d)
 asked-fits (hingeAlign a b) e = rotation-fits (crossOf (turned₁ e a) (turned₂ e b))
 asked-fits (hingeLimit l a₁ b₁ b₂) e = limit-fits e (angleCorrection l (turned₁ e a₁) (turned₁ e b₁) (turned₂ e b₂) pi)
 asked-fits (slideAngle q) e = rotation-fits (apart e q)
-asked-fits (slideAlign l a b d axis) e = rotation-fits (slideCorrection l (between e a b d) (turned₁ e axis))
-asked-fits (ballPoint a b d) e = point-fits (between e a b d)
+asked-fits (slideAlign l a b d axis) e = rotation-fits (slideCorrection l (separation e a b d) (turned₁ e axis))
+asked-fits (ballPoint a b d) e = point-fits (separation e a b d)
 asked-fits (ballSwing l a₁ a₂) e = limit-fits e (swingCorrection l (turned₁ e a₁) (turned₂ e a₂))
 asked-fits (ballTwist l a₁ a₂ b₁ b₂) e = limit-fits e (twistCorrection l (turned₁ e a₁) (turned₂ e a₂) (turned₁ e b₁) (turned₂ e b₂) (e .dt))
-asked-fits (tether l a b d) e = distance-fits l (between e a b d)
+asked-fits (tether l a b d) e = distance-fits l (separation e a b d)
 
 correction-fits : (e : Entry) → FitAsked (correctionOf e .error) (correctionOf e .n)
 unfolding correctionOf
@@ -181,7 +181,7 @@ uncalled-fit true l r f = f
 uncalled-fit false l r f = f
 
 done-fit : (v : Bool) (l : Slot) (s : Stage) (r : Run) → Fit (s .entry .bodies) → Fit (r .bodies)
-    → Fit ((if v then record { bodies = afterOf s; totals = added l (impulseOf s) (r .totals) } else uncalled (correctionOf (s .entry) .still) l r) .bodies)
+    → Fit ((if v then record { bodies = afterOf s; totals = added l (totalChange s) (r .totals) } else uncalled (correctionOf (s .entry) .still) l r) .bodies)
 done-fit true l s r f g = after-fit s f
 done-fit false l s r f g = uncalled-fit (correctionOf (s .entry) .still) l r g
 
@@ -222,7 +222,7 @@ step-sound S o (compliant l k α) a r f h =
       n-fits = c .1;
       soft-fits = a .0;
       soft-up = a .1;
-      impulse = b .1 v;
+      change = b .1 v;
       d₁ = held3 (r .bodies .body1 .«delta_position») (f .p₁) (b .0 .still .d₁);
       d₂ = held3 (r .bodies .body2 .«delta_position») (f .p₂) (b .0 .still .d₂);
       q₁ = o .m₁;

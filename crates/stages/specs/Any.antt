@@ -15,9 +15,9 @@ stepsOf (Prismatic j k) = slideSteps j k
 stepsOf (Spherical j k) = ballSteps j k
 stepsOf (Distance j k) = tetherSteps j k
 
-abbrev pub startOf : PreparedJoint → BodyPair → Run
-startOf p b = record { bodies = b; totals = totalsOf p }
+abbrev pub solveStart : PreparedJoint → BodyPair → Run
+solveStart p b = record { bodies = b; totals = totalsOf p }
 
 -- a joint's answer: both bodies, and its totals
-abbrev pub runOf : JointSolved → Run
-runOf s = record { bodies = s .bodies; totals = totalsOf (s .joint) }
+abbrev pub solveRun : JointSolved → Run
+solveRun s = record { bodies = s .bodies; totals = totalsOf (s .joint) }

@@ -16,7 +16,7 @@ use Rattle.xpbd_joints.specs.Revolute.{drivenBy, angularMotorGiven}
 use Rattle.xpbd_joints.specs.Prismatic.{drivenAlong, linearMotorGiven}
 use Rattle.xpbd_plugin.specs.Joint.{totals}
 use Rattle.xpbd_plugin.specs.declared.JointTotals.{JointTotals}
-use Rattle.stages.specs.Stage.{Reads, Stage, correctionOf, impulseOf, afterOf}
+use Rattle.stages.specs.Stage.{Reads, Stage, correctionOf, totalChange, afterOf}
 
 -- the place of a total
 pub data Slot : Type 0 where
@@ -67,7 +67,7 @@ uncalled false l r = record { bodies = r .bodies; totals = added l origin (r .to
 
 abbrev pub stageDone : Slot → Stage → Run → Run
 stageDone l s r =
-    if isCalled s then record { bodies = afterOf s; totals = added l (impulseOf s) (r .totals) }
+    if isCalled s then record { bodies = afterOf s; totals = added l (totalChange s) (r .totals) }
     else uncalled (correctionOf (s .entry) .still) l r
 
 -- what a motor's operation gives
