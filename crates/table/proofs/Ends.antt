@@ -14,7 +14,8 @@ use Rattle.solver_body.specs.declared.RigidBody.{RigidBody}
 use Rattle.solver_body.specs.declared.SolverBody.{SolverBody}
 use Rattle.xpbd_plugin.specs.Joint.{noTotals}
 use Rattle.xpbd_plugin.specs.declared.JointTotals.{JointTotals}
-use Rattle.tick.specs.Body.{restingBody, finishedBody}
+use Rattle.tick.specs.Body.{finishedBody}
+use Rattle.tick.specs.Parts.{restingBody}
 use Rattle.tick.specs.declared.body.BodyState.{BodyState}
 use Rattle.card.specs.Layout.{maxBodies, maxJoints, bodyNumbers}
 use Rattle.card.specs.Records.{dtOf}

@@ -14,7 +14,8 @@ use Rattle.scalar.specs.Scalar.{isFinite}
 use Rattle.xpbd_plugin.specs.Joint.{noTotals}
 use Rattle.xpbd_plugin.specs.declared.JointTotals.{JointTotals}
 use Rattle.tick.specs.Finite.{finite3, finite4}
-use Rattle.tick.specs.Body.{restingBody, tooFar, bodyFault}
+use Rattle.tick.specs.Body.{tooFar, bodyFault}
+use Rattle.tick.specs.Parts.{restingBody}
 use Rattle.tick.specs.declared.body.BodyState.{BodyState}
 use Rattle.card.specs.Layout.{stateLength}
 use Rattle.card.specs.Loop.{anyTo}

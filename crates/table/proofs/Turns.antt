@@ -12,7 +12,8 @@ use borrow.Author.Tests.{eq-eqb, ne-eqb}
 use Rattle.scalar.specs.Arith.{if_then_else_}
 use Rattle.vector.specs.declared.Vec3.{Vec3}
 use Rattle.vector.specs.declared.Quat.{Quat}
-use Rattle.solver_body.specs.Body.{dummyBody, invalidIndex, isValid}
+use Rattle.solver_body.specs.Body.{dummyBody}
+use Rattle.solver_body.specs.Parts.{invalidIndex, isValid}
 use Rattle.joints.specs.declared.Joint.{Joint}
 use Rattle.joints.specs.declared.Joint.the-variants.{Fixed, Revolute, Prismatic, Spherical, Distance}
 use Rattle.solver_body.specs.declared.RigidBody.{RigidBody}
