@@ -8,7 +8,6 @@ use lib.Ieee.Fits.{sub-fits, div-fits}
 use lib.Ieee.Bits.{ofBits-fits}
 use Rattle.scalar.specs.Arith.{if_then_else_, _⊖_, _⊗_, _⊘_, f0, epsilon, pi}
 use Rattle.scalar.specs.Scalar.{absOf}
-use Rattle.root.specs.Root.{rootOf}
 use Rattle.vector.specs.Vector.{negOf, divOf, crossOf, lengthOf, lengthSquaredOf}
 use Rattle.vector.specs.Rotation.{turnOf}
 use Rattle.vector.specs.declared.Vec3.{Vec3}
@@ -36,7 +35,7 @@ use Rattle.xpbd_joints.specs.Spherical.{swingCorrection, twistCorrection}
 use Rattle.laws.proofs.Place.{real, Held}
 use Rattle.stages.specs.Stage.{Reads, fixedPoint, fixedAngle, hingePoint, hingeAlign, hingeLimit, slideAngle, slideAlign, ballPoint, ballSwing, ballTwist, tether, positional, Entry, Stage, limitAsked, turned₁, turned₂, separation, asked, correctionOf, totalChange, appliedTo, afterOf}
 use Rattle.stages.specs.Steps.{Slot, added, Step, compliant, hingeMotor, slideMotor, Setting, Run, stageAt, isCalled, uncalled, hingeGiven, slideGiven, hingeDriven, slideDriven, stepped, run, MotorPush, pushMultiplier, Event, aStage, aPush, eventsOf, events}
-use Rattle.stages.proofs.Vec.{Finite3, Fits3, Held3, held3, add-fits3, sub-fits3, div-fits3, origin-fits3, root-fits, length-squared-fits, length-fits}
+use Rattle.stages.proofs.Vec.{Finite3, Fits3, Held3, held3, add-fits3, sub-fits3, div-fits3, origin-fits3, length-fits}
 use Rattle.stages.proofs.Back.{Calm, done-back, hinge-back, slide-back, run-back}
 
 pub record SoundStage (s : Stage) : Type 0 where
@@ -108,7 +107,7 @@ pick-fits false false false x y z h k l = l
 distance-fits : (l : DistanceLimit) (s : Vec3) → FitAsked (distanceCorrection l s .magnitude) (distanceCorrection l s .direction)
 unfolding distanceCorrection
 distance-fits l s =
-    let d = rootOf (lengthSquaredOf s) in
+    let d = lengthOf s in
     pick-fits (le (lengthSquaredOf s) epsilon) (lt d (l .min)) (lt (l .max) d) (record { direction = divOf s d; magnitude = l .min ⊖ d }) (record { direction = divOf (negOf s) d; magnitude = d ⊖ l .max }) uncorrected
     (sub-fits binary32 (l .min) d, div-fits3 s d) (sub-fits binary32 d (l .max), div-fits3 (negOf s) d) (ofBits-fits binary32 0, origin-fits3)
 
@@ -119,8 +118,8 @@ limit-fits : (e : Entry) (c : AngleCorrection) → FitAsked (limitAsked e c .err
 limit-fits e limit.None = (ofBits-fits binary32 0, origin-fits3)
 limit-fits e (limit.Some d) = rotation-fits d
 
-point-fits : (s : Vec3) → FitAsked (rootOf (lengthSquaredOf s)) (divOf (negOf s) (rootOf (lengthSquaredOf s)))
-point-fits s = (root-fits (lengthSquaredOf s) (length-squared-fits s), div-fits3 (negOf s) (rootOf (lengthSquaredOf s)))
+point-fits : (s : Vec3) → FitAsked (lengthOf s) (divOf (negOf s) (lengthOf s))
+point-fits s = (length-fits s, div-fits3 (negOf s) (lengthOf s))
 
 abbrev apart : Entry → Quat → Vec3
 apart e q = rotationDifference q (e .bodies .body1 .«delta_rotation») (e .bodies .body2 .«delta_rotation»)
