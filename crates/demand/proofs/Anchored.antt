@@ -13,6 +13,7 @@ use lib.Dec.{T, T-not, eqb}
 use lib.Ieee.{Float}
 use Rattle.scalar.specs.Arith.{if_then_else_}
 use Rattle.xpbd_plugin.specs.Joint.{noTotals}
+use Rattle.stages.proofs.Choice.{either}
 use Rattle.card.specs.Layout.{stateLength}
 use Rattle.card.specs.Loop.{anyTo}
 use Rattle.card.specs.Records.{headerAt, bodyBits}
@@ -27,7 +28,6 @@ use Rattle.card_records.proofs.Starting.{start-refused}
 use Rattle.card_records.proofs.StartState.{start-body}
 use Rattle.table.proofs.Loops.{after-all}
 use Rattle.table.proofs.Ticking.{tick-refused}
-use Rattle.demand.proofs.Loops.{either}
 
 -- ---- the start
 

@@ -20,6 +20,7 @@ use Rattle.xpbd_plugin.specs.declared.PreparedJoint.{PreparedJoint}
 use Rattle.xpbd_plugin.specs.declared.PreparedJoint.the-variants.{Fixed, Revolute, Prismatic, Spherical, Distance}
 use Rattle.stages.specs.Steps.{Setting, Run}
 use Rattle.stages.specs.Any.{stepsOf, solveStart}
+use Rattle.stages.proofs.Choice.{either}
 use Rattle.stages.proofs.Vec.{Fits3, origin-fits3}
 use Rattle.stages.proofs.Sound.{Fit, run-fit}
 use Rattle.stages.proofs.Faithful.{joint-is-steps}
@@ -32,7 +33,6 @@ use Rattle.tick.specs.Joint.{jointFinite}
 use Rattle.tick.specs.declared.body.BodyState.{BodyState}
 use Rattle.table.specs.Tick.{Solved, bodyStateAt, firstBody, secondBody, inertiasAt, preparedAt, putMoving, pairAt, putPair, loadNext, warmStartNext, integrateNext, loaded, warmStarted, preSolve, solvedAt, putSolved, stop, solveNext, before}
 use Rattle.table.proofs.Loops.{after-all}
-use Rattle.demand.proofs.Loops.{either}
 
 abbrev Fitting : SolverBody → Type 0
 Fitting b = Fits3 (b .«delta_position»)

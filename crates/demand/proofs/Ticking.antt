@@ -25,9 +25,9 @@ use Rattle.tick.specs.Joint.{jointFinite}
 use Rattle.table.specs.Loop.{after}
 use Rattle.table.specs.Tick.{Solved, preparedAt, pairAt, preSolve, solvedAt, putSolved, stop, solveNext, before, newFault, stored, finished, tickAccepted}
 use Rattle.table.specs.Run.{tickOf}
+use Rattle.table.proofs.Loops.{after-back}
 use Rattle.table.proofs.Ticking.{card-passed}
 use Rattle.demand.specs.Trace.{solveAt, settingAt, stepsAt, startAt, eventsAt}
-use Rattle.demand.proofs.Loops.{after-back}
 use Rattle.demand.proofs.Calm.{solve-calm}
 use Rattle.demand.proofs.Fitting.{pair-fit, before-fit}
 use Rattle.demand.proofs.Given.{setting-ok, steps-ok}

@@ -35,6 +35,7 @@ use Rattle.xpbd_joints.specs.Spherical.{swingCorrection, twistCorrection}
 use Rattle.laws.proofs.Place.{real, Held}
 use Rattle.stages.specs.Stage.{Reads, fixedPoint, fixedAngle, hingePoint, hingeAlign, hingeLimit, slideAngle, slideAlign, ballPoint, ballSwing, ballTwist, tether, positional, Entry, Stage, limitAsked, turned₁, turned₂, separation, asked, correctionOf, totalChange, appliedTo, afterOf}
 use Rattle.stages.specs.Steps.{Slot, added, Step, compliant, hingeMotor, slideMotor, Setting, Run, stageAt, isCalled, uncalled, hingeGiven, slideGiven, hingeDriven, slideDriven, stepped, run, MotorPush, pushMultiplier, Event, aStage, aPush, eventsOf, events}
+use Rattle.stages.proofs.Choice.{either}
 use Rattle.stages.proofs.Vec.{Finite3, Fits3, Held3, held3, add-fits3, sub-fits3, div-fits3, origin-fits3, length-fits}
 use Rattle.stages.proofs.Back.{Calm, done-back, hinge-back, slide-back, run-back}
 
@@ -97,19 +98,20 @@ pub record Fit (b : BodyPair) : Type 0 where
 abbrev FitAsked : Float → Vec3 → Type 0
 FitAsked c n = T (fits binary32 c) × Fits3 n
 
-pick-fits : (u v w : Bool) (x y z : DistanceCorrection) → FitAsked (x .magnitude) (x .direction) → FitAsked (y .magnitude) (y .direction) → FitAsked (z .magnitude) (z .direction)
-    → FitAsked ((if u then z else if v then x else if w then y else z) .magnitude) ((if u then z else if v then x else if w then y else z) .direction)
-pick-fits true v w x y z h k l = l
-pick-fits false true w x y z h k l = h
-pick-fits false false true x y z h k l = k
-pick-fits false false false x y z h k l = l
+abbrev CorrectionFits : DistanceCorrection → Type 0
+CorrectionFits c = FitAsked (c .magnitude) (c .direction)
 
-distance-fits : (l : DistanceLimit) (s : Vec3) → FitAsked (distanceCorrection l s .magnitude) (distanceCorrection l s .direction)
+distance-fits : (l : DistanceLimit) (s : Vec3) → CorrectionFits (distanceCorrection l s)
 unfolding distanceCorrection
 distance-fits l s =
     let d = lengthOf s in
-    pick-fits (le (lengthSquaredOf s) epsilon) (lt d (l .min)) (lt (l .max) d) (record { direction = divOf s d; magnitude = l .min ⊖ d }) (record { direction = divOf (negOf s) d; magnitude = d ⊖ l .max }) uncorrected
-    (sub-fits binary32 (l .min) d, div-fits3 s d) (sub-fits binary32 d (l .max), div-fits3 (negOf s) d) (ofBits-fits binary32 0, origin-fits3)
+    let longer : DistanceCorrection = record { direction = divOf s d; magnitude = l .min ⊖ d } in
+    let shorter : DistanceCorrection = record { direction = divOf (negOf s) d; magnitude = d ⊖ l .max } in
+    let none : CorrectionFits uncorrected = (ofBits-fits binary32 0, origin-fits3) in
+    let high = if lt (l .max) d then shorter else uncorrected in
+    either CorrectionFits (le (lengthSquaredOf s) epsilon) uncorrected (if lt d (l .min) then longer else high) none
+    (either CorrectionFits (lt d (l .min)) longer high (sub-fits binary32 (l .min) d, div-fits3 s d)
+    (either CorrectionFits (lt (l .max) d) shorter uncorrected (sub-fits binary32 d (l .max), div-fits3 (negOf s) d) none))
 
 rotation-fits : (d : Vec3) → FitAsked (lengthOf d) (divOf d (lengthOf d))
 rotation-fits d = (length-fits d, div-fits3 d (lengthOf d))
@@ -142,20 +144,16 @@ unfolding correctionOf
 correction-fits e = asked-fits (e .reads) e
 
 -- ---- a motor's shape
-shape-if : (cap dt : Float) (v : Bool) (g h : MotorLagrange) → Given cap dt g → Given cap dt h → Given cap dt (if v then g else h)
-shape-if cap dt true g h x y = x
-shape-if cap dt false g h x y = y
-
 lagrange-shape : (model : MotorModel) (cap v x w h : Float) → Given cap h (motorLagrange model cap v x w h)
 unfolding motorLagrange
 lagrange-shape model cap v x w h =
     let c = velocityChange model v x w h ⊗ h in
-    shape-if cap h (le (absOf c) epsilon) None (Some (capped (c ⊘ w) cap h)) given-none (given-some (c ⊘ w) (div-fits binary32 c w))
+    either (Given cap h) (le (absOf c) epsilon) None (Some (capped (c ⊘ w) cap h)) given-none (given-some (c ⊘ w) (div-fits binary32 c w))
 
 off-shape : (enabled : Bool) (cap w h : Float) (g : MotorLagrange) → Given cap h g → Given cap h (unlessOff enabled w g)
 unfolding unlessOff
 off-shape enabled cap w h g k =
-    shape-if cap h (not enabled) None (if le w epsilon then None else g) given-none (shape-if cap h (le w epsilon) None g given-none k)
+    either (Given cap h) (not enabled) None (if le w epsilon then None else g) given-none (either (Given cap h) (le w epsilon) None g given-none k)
 
 hinge-shape : (S : Setting) (m : AngularMotor) (a₁ b₁ b₂ : Vec3) (b : BodyPair) → Given (m .«max_torque») (S .dt) (hingeGiven S m a₁ b₁ b₂ b)
 unfolding angularMotorGiven
