@@ -96,7 +96,6 @@ fn model_of(motor: u32, a: f32, b: f32) -> MotorModel
     }
 }
 
-// Where the card has no motor: the Rust's `AngularMotor::new_disabled(MotorModel::DEFAULT)`.
 fn angular_motor_at(card: &[u8], motor: u32, at: usize) -> AngularMotor
     requires { ⌜ at + 20 ≤ length (now card) ⌝ }
     ensures { λ r. ⌜ r ≡ angularMotorAt (now (card .entry)) motor at ⌝ }
@@ -113,7 +112,6 @@ fn angular_motor_at(card: &[u8], motor: u32, at: usize) -> AngularMotor
     }
 }
 
-// Where the card has no motor: the Rust's `LinearMotor::new_disabled(MotorModel::DEFAULT)`.
 fn linear_motor_at(card: &[u8], motor: u32, at: usize) -> LinearMotor
     requires { ⌜ at + 20 ≤ length (now card) ⌝ }
     ensures { λ r. ⌜ r ≡ linearMotorAt (now (card .entry)) motor at ⌝ }

@@ -12,13 +12,14 @@ use lib.Seq.{sets, take-set-le, drop-set-lt, drop-set-add}
 use lib.Dec.{T, T-not, eqb}
 use lib.Ieee.{Float}
 use Rattle.scalar.specs.Arith.{if_then_else_}
+use Rattle.xpbd_plugin.specs.Joint.{noTotals}
+use Rattle.stages.proofs.Choice.{either}
 use Rattle.card.specs.Layout.{totalsPlace}
 use Rattle.card.specs.Loop.{anyTo}
 use Rattle.card.specs.Records.{headerAt, bodyBits}
 use Rattle.card.specs.Checks.{checkOf}
 use Rattle.card_records.specs.State.{lengthFault, startState, checkStateOf, Answered, answered, startAccepted, startOf}
 use Rattle.card.specs.declared.records.Header.{Header}
-use Rattle.tick.specs.Joint.{noTotals}
 use Rattle.table.specs.Loop.{after}
 use Rattle.table.specs.Tick.{Solved, bodyStateNumbers, totalsNumbers, newBody, newFault, storeBody, storeTotals, stored, before, finished, tickAccepted}
 use Rattle.table.specs.Run.{tickOf, tickNext, runOf}
@@ -27,7 +28,6 @@ use Rattle.card_records.proofs.Starting.{start-refused}
 use Rattle.card_records.proofs.StartState.{start-body}
 use Rattle.table.proofs.Loops.{after-all}
 use Rattle.table.proofs.Ticking.{tick-refused}
-use Rattle.demand.proofs.Loops.{either}
 
 -- ---- the start
 

@@ -1,5 +1,5 @@
 -- What refusal 13 lets pass after a joint's solve is finite, as the laws of its stages ask.
-use mathlib.Core.Path.{_≡_, refl, subst}
+use mathlib.Core.Path.{subst}
 use mathlib.Core.Bool.{_&&_}
 use lib.Dec.{T}
 use lib.Ieee.{Float}
@@ -9,16 +9,14 @@ use Rattle.scalar.specs.Scalar.{isFinite}
 use Rattle.scalar.proofs.Finite.{is-finite}
 use Rattle.vector.specs.declared.Vec3.{Vec3}
 use Rattle.solver_body.specs.declared.SolverBody.{SolverBody}
-use Rattle.xpbd_plugin.specs.declared.PreparedJoint.{PreparedJoint}
-use Rattle.xpbd_plugin.specs.declared.PreparedJoint.the-variants.{Fixed, Revolute, Prismatic, Spherical, Distance}
+use Rattle.xpbd_plugin.specs.Joint.{totalsOf}
 use Rattle.xpbd_plugin.specs.declared.JointSolved.{JointSolved}
-use Rattle.stages.specs.Steps.{Totals}
-use Rattle.stages.specs.Any as stages
+use Rattle.xpbd_plugin.specs.declared.JointTotals.{JointTotals}
+use Rattle.stages.specs.Any.{solveRun}
 use Rattle.stages.proofs.Vec.{Finite3}
 use Rattle.stages.proofs.Back.{AllTotals, Calm}
 use Rattle.tick.specs.Finite.{finite3, finite4, bodyFinite}
-use Rattle.tick.specs.Joint.{totalsOf, preparedFinite, totalsFinite, jointFinite}
-use Rattle.tick.specs.declared.joint.JointTotals.{JointTotals}
+use Rattle.tick.specs.Joint.{preparedFinite, totalsFinite, jointFinite}
 
 finite-is : (x : Float) → T (isFinite x) → T (finite x)
 finite-is x h = subst T (is-finite x) h
@@ -38,18 +36,7 @@ displacement-finite b h =
     let d = finite3 (b .«delta_position») in
     vector-finite (b .«delta_position») (and-r velocities d (and-l (velocities && d) (finite4 (b .«delta_rotation»)) h))
 
-abbrev asTotals : JointTotals → Totals
-asTotals t = record { t₁ = t .first; t₂ = t .second; t₃ = t .third; t₄ = t .fourth }
-
-same-totals : (p : PreparedJoint) → asTotals (totalsOf p) ≡ stages.totalsOf p
-unfolding totalsOf stages.totalsOf
-same-totals (Fixed j k) = refl
-same-totals (Revolute j k) = refl
-same-totals (Prismatic j k) = refl
-same-totals (Spherical j k) = refl
-same-totals (Distance j k) = refl
-
-totals-finite : (t : JointTotals) → T (totalsFinite t) → AllTotals (asTotals t)
+totals-finite : (t : JointTotals) → T (totalsFinite t) → AllTotals t
 unfolding totalsFinite
 totals-finite t h =
     let a = finite3 (t .first) in
@@ -65,7 +52,7 @@ totals-finite t h =
       f₄ = vector-finite (t .fourth) (and-r (a && b && c) d h);
     }
 
-pub solve-calm : (s : JointSolved) → T (jointFinite s) → Calm (stages.runOf s)
+pub solve-calm : (s : JointSolved) → T (jointFinite s) → Calm (solveRun s)
 unfolding jointFinite
 solve-calm s h =
     let p = preparedFinite (s .joint) in
@@ -79,5 +66,5 @@ solve-calm s h =
             d₁ = displacement-finite (s .bodies .body1) (and-r (p && t) b ptb);
             d₂ = displacement-finite (s .bodies .body2) (and-r (p && t && b) c h);
           };
-      totals = subst AllTotals (same-totals (s .joint)) (totals-finite (totalsOf (s .joint)) (and-r p t (and-l (p && t) b ptb)));
+      totals = totals-finite (totalsOf (s .joint)) (and-r p t (and-l (p && t) b ptb));
     }

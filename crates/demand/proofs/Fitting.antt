@@ -15,24 +15,24 @@ use Rattle.xpbd_joints.specs.Revolute as hinge
 use Rattle.xpbd_joints.specs.Prismatic as slide
 use Rattle.xpbd_joints.specs.declared.revolute.RevoluteSolved.{RevoluteSolved}
 use Rattle.xpbd_joints.specs.declared.prismatic.PrismaticSolved.{PrismaticSolved}
-use Rattle.xpbd_plugin.specs.Joint.{jointWarmStarted, jointSolved}
+use Rattle.xpbd_plugin.specs.Joint.{jointWarmStarted, jointSolved, noTotals}
 use Rattle.xpbd_plugin.specs.declared.PreparedJoint.{PreparedJoint}
 use Rattle.xpbd_plugin.specs.declared.PreparedJoint.the-variants.{Fixed, Revolute, Prismatic, Spherical, Distance}
 use Rattle.stages.specs.Steps.{Setting, Run}
-use Rattle.stages.specs.Any.{stepsOf}
+use Rattle.stages.specs.Any.{stepsOf, solveStart}
+use Rattle.stages.proofs.Choice.{either}
 use Rattle.stages.proofs.Vec.{Fits3, origin-fits3}
 use Rattle.stages.proofs.Sound.{Fit, run-fit}
-use Rattle.stages.proofs.Faithful.{startOf, joint-is-steps}
+use Rattle.stages.proofs.Faithful.{joint-is-steps}
 use Rattle.card.specs.Layout.{maxBodies, maxJoints}
 use Rattle.card.specs.Records.{bodyBits, dtOf}
 use Rattle.card_records.specs.Decode.{inertiaAt}
 use Rattle.card.specs.declared.records.Header.{Header}
 use Rattle.tick.specs.Body.{solverBodyOf, integrated}
-use Rattle.tick.specs.Joint.{noTotals, jointFinite}
+use Rattle.tick.specs.Joint.{jointFinite}
 use Rattle.tick.specs.declared.body.BodyState.{BodyState}
 use Rattle.table.specs.Tick.{Solved, bodyStateAt, firstBody, secondBody, inertiasAt, preparedAt, putMoving, pairAt, putPair, loadNext, warmStartNext, integrateNext, loaded, warmStarted, preSolve, solvedAt, putSolved, stop, solveNext, before}
 use Rattle.table.proofs.Loops.{after-all}
-use Rattle.demand.proofs.Loops.{either}
 
 abbrev Fitting : SolverBody → Type 0
 Fitting b = Fits3 (b .«delta_position»)
@@ -75,7 +75,7 @@ warm-fit (Distance j k) b i₁ i₂ c f = f
 solved-fit : (p : PreparedJoint) (b : BodyPair) (i₁ i₂ : SolverBodyInertia) (h : Float) → Fit b → Fit (jointSolved p b i₁ i₂ h .bodies)
 solved-fit p b i₁ i₂ h f =
     let S : Setting = record { dt = h; inertia1 = i₁; inertia2 = i₂ } in
-    subst (λ (r : Run). Fit (r .bodies)) (joint-is-steps S p b) (run-fit S (stepsOf p) (startOf p b) f)
+    subst (λ (r : Run). Fit (r .bodies)) (joint-is-steps S p b) (run-fit S (stepsOf p) (solveStart p b) f)
 
 -- ---- the tick
 

@@ -27,6 +27,7 @@ use Rattle.laws.proofs.Place.{Held}
 use Rattle.laws.proofs.Step.{step-held}
 use Rattle.stages.specs.Joints.{hingeLimitSteps, swingSteps, twistSteps}
 use Rattle.stages.specs.Any.{stepsOf}
+use Rattle.stages.proofs.Choice.{either}
 use Rattle.stages.proofs.Vec.{Held3}
 use Rattle.stages.proofs.Sound.{SettingOk, StepOk, All, all-append}
 use Rattle.card.specs.Layout.{bodyFloats, jointFloats, invMassFloat, complianceFloat}
@@ -39,7 +40,6 @@ use Rattle.card_records.specs.Decode.{movingInertia, inertiaAt, angularMotorAt,
 use Rattle.card_records.specs.declared.joint.CardJoint.the-variants.{Unknown}
 use Rattle.table.specs.Tick.{knownJoint, firstBody, secondBody, rigidAt, preparedAt}
 use Rattle.demand.specs.Trace.{settingAt, stepsAt}
-use Rattle.demand.proofs.Loops.{either}
 
 -- ---- the time
 

@@ -1,4 +1,3 @@
-pub mod Loops
 pub mod Anchored
 pub mod Calm
 pub mod Fitting

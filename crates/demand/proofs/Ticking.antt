@@ -9,8 +9,9 @@ use lib.Dec.{T, eqb, eqb→eq}
 use lib.Ieee.{Float}
 use lib.Ieee.Fits.{eq→eqb}
 use Rattle.scalar.specs.Arith.{if_then_else_}
+use Rattle.xpbd_plugin.specs.Joint.{noTotals}
 use Rattle.stages.specs.Steps.{run}
-use Rattle.stages.specs.Any.{runOf}
+use Rattle.stages.specs.Any.{solveRun}
 use Rattle.stages.proofs.Sound.{EventSound, All}
 use Rattle.stages.proofs.Faithful.{joint-is-steps, joint-sound}
 use Rattle.card.specs.Layout.{maxJoints}
@@ -20,18 +21,18 @@ use Rattle.card.specs.Checks.{checkOf}
 use Rattle.card.proofs.Accepted.{accepted}
 use Rattle.card_records.specs.State.{checkStateOf, answered}
 use Rattle.card.specs.declared.records.Header.{Header}
-use Rattle.tick.specs.Joint.{noTotals, jointFinite}
+use Rattle.tick.specs.Joint.{jointFinite}
 use Rattle.table.specs.Loop.{after}
 use Rattle.table.specs.Tick.{Solved, preparedAt, pairAt, preSolve, solvedAt, putSolved, stop, solveNext, before, newFault, stored, finished, tickAccepted}
 use Rattle.table.specs.Run.{tickOf}
+use Rattle.table.proofs.Loops.{after-back}
 use Rattle.table.proofs.Ticking.{card-passed}
 use Rattle.demand.specs.Trace.{solveAt, settingAt, stepsAt, startAt, eventsAt}
-use Rattle.demand.proofs.Loops.{after-back}
 use Rattle.demand.proofs.Calm.{solve-calm}
 use Rattle.demand.proofs.Fitting.{pair-fit, before-fit}
 use Rattle.demand.proofs.Given.{setting-ok, steps-ok}
 
-pub solve-is-steps : (card : List ℕ) (s : List Float) (j : ℕ) → run (settingAt card s j) (stepsAt card s j) (startAt card s j) ≡ runOf (solveAt card s j)
+pub solve-is-steps : (card : List ℕ) (s : List Float) (j : ℕ) → run (settingAt card s j) (stepsAt card s j) (startAt card s j) ≡ solveRun (solveAt card s j)
 solve-is-steps card s j =
     let h = headerAt card in
     joint-is-steps (settingAt card s j) (preparedAt card h s j) (pairAt card h s j (before card h s j .bodies))

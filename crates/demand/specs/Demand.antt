@@ -8,7 +8,7 @@ use lib.Dec.{T}
 use lib.Ieee.{Float, le}
 use Rattle.stages.specs.Stage.{Stage}
 use Rattle.stages.specs.Steps.{run, MotorPush, Event, aStage, aPush}
-use Rattle.stages.specs.Any.{runOf}
+use Rattle.stages.specs.Any.{solveRun}
 use Rattle.stages.specs.Demand.{Bounded, Capped, Softer}
 use Rattle.card.specs.Layout.{bodyNumbers}
 use Rattle.card.specs.Records.{headerAt, bodyBits}
@@ -64,7 +64,7 @@ AnchoredKept card s =
 
 pub record DemandThree : Type 0 where
   -- a joint's solve is the run of its steps: the stages and pushes are all that it makes
-  pub faithful : (card : List ℕ) (s : List Float) (j : ℕ) → run (settingAt card s j) (stepsAt card s j) (startAt card s j) ≡ runOf (solveAt card s j)
+  pub faithful : (card : List ℕ) (s : List Float) (j : ℕ) → run (settingAt card s j) (stepsAt card s j) (startAt card s j) ≡ solveRun (solveAt card s j)
   -- each stage's multiplier is exactly zero where w ≤ 2^-23, else between zero and -c / w
   pub stages : (s : Stage) → EventOfTick (aStage s) → Bounded s
   -- each motor's multiplier is under its cap

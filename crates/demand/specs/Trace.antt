@@ -4,7 +4,7 @@ use mathlib.Core.List.{List}
 use lib.Ieee.{Float}
 use Rattle.xpbd_plugin.specs.declared.JointSolved.{JointSolved}
 use Rattle.stages.specs.Steps.{Step, Setting, Run, Event, events}
-use Rattle.stages.specs.Any.{totalsOf, stepsOf}
+use Rattle.stages.specs.Any.{stepsOf, solveStart}
 use Rattle.card.specs.Records.{headerAt, dtOf}
 use Rattle.table.specs.Tick.{inertiasAt, preparedAt, pairAt, solvedAt, before}
 
@@ -24,9 +24,7 @@ module _ (card : List ℕ) (s : List Float) where
   stepsAt j = stepsOf (preparedAt card (headerAt card) s j)
 
   abbrev pub startAt : ℕ → Run
-  startAt j =
-      let h = headerAt card in
-      record { bodies = pairAt card h s j (before card h s j .bodies); totals = totalsOf (preparedAt card h s j) }
+  startAt j = let h = headerAt card in solveStart (preparedAt card h s j) (pairAt card h s j (before card h s j .bodies))
 
   -- the stages and pushes among them
   unfoldable pub eventsAt : ℕ → List Event

@@ -3,9 +3,8 @@ use mathlib.Core.Bool.{_||_}
 use lib.Ieee.{Float, lt, le}
 use Rattle.scalar.specs.Arith.{if_then_else_, _⊖_, f0, epsilon, pi, tau}
 use Rattle.scalar.specs.Scalar.{clampOf}
-use Rattle.root.specs.Root.{rootOf}
 use Rattle.trig.specs.Arctangent.{asinOf}
-use Rattle.vector.specs.Vector.{origin, negOf, scaleOf, divOf, dotOf, crossOf, lengthSquaredOf, clampLengthMax}
+use Rattle.vector.specs.Vector.{origin, negOf, scaleOf, divOf, dotOf, crossOf, lengthSquaredOf, lengthOf, clampLengthMax}
 use Rattle.vector.specs.Rotation.{turnOf, ofAxisAngle}
 use Rattle.vector.specs.declared.Vec3.{Vec3}
 use Rattle.joints.specs.declared.DistanceLimit.{DistanceLimit}
@@ -23,7 +22,7 @@ uncorrected = record { direction = origin; magnitude = f0 }
 -- (25): the direction and the amount by which the separation s leaves the limits
 unfoldable pub distanceCorrection : DistanceLimit → Vec3 → DistanceCorrection
 distanceCorrection l s =
-    let d = rootOf (lengthSquaredOf s) in
+    let d = lengthOf s in
     if le (lengthSquaredOf s) epsilon then uncorrected
     else if lt d (l .min) then record { direction = divOf s d; magnitude = l .min ⊖ d }
     else if lt (l .max) d then record { direction = divOf (negOf s) d; magnitude = d ⊖ l .max }

@@ -1,4 +1,4 @@
--- A motor's multiplier, by its model, which is the Rust's own, and a joint without a motor. Definitions only.
+-- A motor's multiplier by its model, both the Rust's own; and the motor of a joint that has none. Definitions only.
 use mathlib.Core.Bool.{false, _&&_}
 use lib.Ieee.{Float, neg, lt, le}
 use Rattle.scalar.specs.Arith.{if_then_else_, _⊕_, _⊗_, _⊘_, f32, f0, f1, f2, epsilon, largest, tau}

@@ -115,7 +115,7 @@ fn capped(delta_lagrange: f32, cap: f32, dt: f32) -> f32
 }
 
 impl AngularMotor {
-    // A joint without a motor.
+    // A joint without a motor: the Rust's `AngularMotor::new_disabled(MotorModel::DEFAULT)`.
     pub const DISABLED: AngularMotor = AngularMotor {
         enabled: false,
         target_velocity: 0.0,
@@ -139,7 +139,7 @@ impl AngularMotor {
 }
 
 impl LinearMotor {
-    // A joint without a motor.
+    // A joint without a motor: the Rust's `LinearMotor::new_disabled(MotorModel::DEFAULT)`.
     pub const DISABLED: LinearMotor = LinearMotor {
         enabled: false,
         target_velocity: 0.0,

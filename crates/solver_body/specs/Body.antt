@@ -1,6 +1,5 @@
 -- A body's inverse mass under its locks, and the dummy that stands for an anchored body (src/dynamics/solver/solver_body/mod.rs). Definitions only.
-use mathlib.Core.Bool.{Bool, false, not}
-use lib.Dec.{eqb}
+use mathlib.Core.Bool.{Bool, false}
 use lib.Ieee.{Float}
 use lib.IntN.{pos}
 use Rattle.scalar.specs.Arith.{if_then_else_, f32, f0}
@@ -11,7 +10,6 @@ use Rattle.vector.specs.declared.Vec3.{Vec3}
 use Rattle.vector.specs.declared.Quat.{Quat}
 use Rattle.solver_body.specs.declared.SolverBody.{SolverBody}
 use Rattle.solver_body.specs.declared.SolverBodyInertia.{SolverBodyInertia}
-use Rattle.solver_body.specs.declared.SolverBodyIndex.{SolverBodyIndex}
 
 -- 4,096: a position's coordinate may be as large, by refusals 12 and 13
 abbrev pub positionBound : Float
@@ -42,13 +40,6 @@ dummyInertia =
       «translation_y_locked» = false;
       «translation_z_locked» = false;
     }
-
--- an anchored body has no place among the solver's bodies
-abbrev pub invalidIndex : SolverBodyIndex
-invalidIndex = record { 0 = 0xffff_ffff }
-
-abbrev pub isValid : SolverBodyIndex → Bool
-isValid i = not (eqb (i .0) (invalidIndex .0))
 
 -- nothing moves along a locked axis
 unfoldable pub unlocked : Bool → Float → Float

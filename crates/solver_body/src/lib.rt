@@ -3,7 +3,8 @@ use vector::Quat;
 use vector::SymmetricTensor;
 use vector::Vec3;
 ghost use mathlib.Core.Path.{_≡_};
-ghost use Rattle.solver_body.specs.Body.{unlocked, effectiveInvMass, isValid};
+ghost use Rattle.solver_body.specs.Body.{unlocked, effectiveInvMass};
+ghost use Rattle.solver_body.specs.Parts.{isValid};
 
 // A position's coordinate may be as large: refusals 12 and 13.
 pub const POSITION_BOUND: f32 = 4096.0;

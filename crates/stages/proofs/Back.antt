@@ -20,8 +20,9 @@ use Rattle.xpbd_joints.specs.Revolute.{drivenBy}
 use Rattle.xpbd_joints.specs.Prismatic.{drivenAlong}
 use Rattle.laws.proofs.Place.{real}
 use Rattle.laws.proofs.Between.{finite-add}
-use Rattle.stages.specs.Stage.{positional, Stage, correctionOf, impulseOf, multiplierOf, appliedTo, afterOf}
-use Rattle.stages.specs.Steps.{Totals, Slot, first, second, third, fourth, added, Step, compliant, hingeMotor, slideMotor, Setting, Run, stageAt, isCalled, uncalled, hingeGiven, slideGiven, hingeDriven, slideDriven, stepped, run, pushMultiplier}
+use Rattle.xpbd_plugin.specs.declared.JointTotals.{JointTotals}
+use Rattle.stages.specs.Stage.{positional, Stage, correctionOf, totalChange, multiplierOf, appliedTo, afterOf}
+use Rattle.stages.specs.Steps.{Slot, first, second, third, fourth, added, Step, compliant, hingeMotor, slideMotor, Setting, Run, stageAt, isCalled, uncalled, hingeGiven, slideGiven, hingeDriven, slideDriven, stepped, run, pushMultiplier}
 use Rattle.stages.proofs.Vec.{Finite3, add-back3, sub-back3, scale-back}
 
 -- both displacements
@@ -29,22 +30,22 @@ pub record Still (b : BodyPair) : Type 0 where
   pub d₁ : Finite3 (b .body1 .«delta_position»)
   pub d₂ : Finite3 (b .body2 .«delta_position»)
 
-pub record AllTotals (t : Totals) : Type 0 where
-  pub f₁ : Finite3 (t .t₁)
-  pub f₂ : Finite3 (t .t₂)
-  pub f₃ : Finite3 (t .t₃)
-  pub f₄ : Finite3 (t .t₄)
+pub record AllTotals (t : JointTotals) : Type 0 where
+  pub f₁ : Finite3 (t .first)
+  pub f₂ : Finite3 (t .second)
+  pub f₃ : Finite3 (t .third)
+  pub f₄ : Finite3 (t .fourth)
 
 pub record Calm (r : Run) : Type 0 where
   pub still : Still (r .bodies)
   pub totals : AllTotals (r .totals)
 
 -- ---- totals
-added-back : (l : Slot) (p : Vec3) (t : Totals) → AllTotals (added l p t) → AllTotals t × Finite3 p
-added-back first p t h = let k = add-back3 (t .t₁) p (h .f₁) in (record { f₁ = k .0; f₂ = h .f₂; f₃ = h .f₃; f₄ = h .f₄ }, k .1)
-added-back second p t h = let k = add-back3 (t .t₂) p (h .f₂) in (record { f₁ = h .f₁; f₂ = k .0; f₃ = h .f₃; f₄ = h .f₄ }, k .1)
-added-back third p t h = let k = add-back3 (t .t₃) p (h .f₃) in (record { f₁ = h .f₁; f₂ = h .f₂; f₃ = k .0; f₄ = h .f₄ }, k .1)
-added-back fourth p t h = let k = add-back3 (t .t₄) p (h .f₄) in (record { f₁ = h .f₁; f₂ = h .f₂; f₃ = h .f₃; f₄ = k .0 }, k .1)
+added-back : (l : Slot) (p : Vec3) (t : JointTotals) → AllTotals (added l p t) → AllTotals t × Finite3 p
+added-back first p t h = let k = add-back3 (t .first) p (h .f₁) in (record { f₁ = k .0; f₂ = h .f₂; f₃ = h .f₃; f₄ = h .f₄ }, k .1)
+added-back second p t h = let k = add-back3 (t .second) p (h .f₂) in (record { f₁ = h .f₁; f₂ = k .0; f₃ = h .f₃; f₄ = h .f₄ }, k .1)
+added-back third p t h = let k = add-back3 (t .third) p (h .f₃) in (record { f₁ = h .f₁; f₂ = h .f₂; f₃ = k .0; f₄ = h .f₄ }, k .1)
+added-back fourth p t h = let k = add-back3 (t .fourth) p (h .f₄) in (record { f₁ = h .f₁; f₂ = h .f₂; f₃ = h .f₃; f₄ = k .0 }, k .1)
 
 -- ---- displacements
 impulse-back : (b : BodyPair) (i₁ i₂ : SolverBodyInertia) (p r₁ r₂ : Vec3) → Still (impulseApplied b i₁ i₂ p r₁ r₂) → Still b
@@ -61,7 +62,7 @@ angular-back b I₁ I₂ p h = record { d₁ = h .d₁; d₂ = h .d₂ }
 
 applied-back : (q : Bool) (s : Stage) → Still (appliedTo q s) → Still (s .entry .bodies)
 applied-back true s h =
-    impulse-back (s .entry .bodies) (s .entry .inertia1) (s .entry .inertia2) (impulseOf s) (correctionOf (s .entry) .r₁) (correctionOf (s .entry) .r₂) h
+    impulse-back (s .entry .bodies) (s .entry .inertia1) (s .entry .inertia2) (totalChange s) (correctionOf (s .entry) .r₁) (correctionOf (s .entry) .r₂) h
 applied-back false s h =
     angular-back (s .entry .bodies) (s .entry .inertia1 .«inv_angular_inertia») (s .entry .inertia2 .«inv_angular_inertia») (scaleOf (correctionOf (s .entry) .n) (neg (multiplierOf s))) h
 
@@ -76,10 +77,10 @@ uncalled-back false l r h = record { still = h .still; totals = added-back l ori
 
 -- v says whether the stage was called
 pub done-back : (v : Bool) (l : Slot) (s : Stage) (r : Run) → s .entry .bodies ≡ r .bodies
-    → Calm (if v then record { bodies = afterOf s; totals = added l (impulseOf s) (r .totals) } else uncalled (correctionOf (s .entry) .still) l r)
-    → Calm r × (T v → Finite3 (impulseOf s))
+    → Calm (if v then record { bodies = afterOf s; totals = added l (totalChange s) (r .totals) } else uncalled (correctionOf (s .entry) .still) l r)
+    → Calm r × (T v → Finite3 (totalChange s))
 done-back true l s r e h =
-    let k = added-back l (impulseOf s) (r .totals) (h .totals) in
+    let k = added-back l (totalChange s) (r .totals) (h .totals) in
     (record { still = rw e at (after-back s (h .still)); totals = k .0 }, λ _. k .1)
 done-back false l s r e h = (uncalled-back (correctionOf (s .entry) .still) l r h, λ x. absurd x)
 
@@ -101,11 +102,11 @@ slide-back S None r₁ r₂ a r h = (h, tt)
 slide-back S (Some Δλ) r₁ r₂ a r h =
     let t = r .totals in
     let f = h .totals in
-    let k = add-back3 (t .t₁) (scaleOf a Δλ) (f .f₁) in (
+    let k = add-back3 (t .first) (scaleOf a Δλ) (f .f₁) in (
       record {
         still = impulse-back (r .bodies) (S .inertia1) (S .inertia2) (negOf (scaleOf a Δλ)) r₁ r₂ (h .still);
         totals =
-            record { f₁ = k .0; f₂ = f .f₂; f₃ = (finite-add binary32 (t .t₃ .x) Δλ (f .f₃ .0) .0, f .f₃ .1, f .f₃ .2); f₄ = f .f₄ };
+            record { f₁ = k .0; f₂ = f .f₂; f₃ = (finite-add binary32 (t .third .x) Δλ (f .f₃ .0) .0, f .f₃ .1, f .f₃ .2); f₄ = f .f₄ };
       },
       scale-back a Δλ (k .1),
     )

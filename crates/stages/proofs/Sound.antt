@@ -8,7 +8,6 @@ use lib.Ieee.Fits.{sub-fits, div-fits}
 use lib.Ieee.Bits.{ofBits-fits}
 use Rattle.scalar.specs.Arith.{if_then_else_, _⊖_, _⊗_, _⊘_, f0, epsilon, pi}
 use Rattle.scalar.specs.Scalar.{absOf}
-use Rattle.root.specs.Root.{rootOf}
 use Rattle.vector.specs.Vector.{negOf, divOf, crossOf, lengthOf, lengthSquaredOf}
 use Rattle.vector.specs.Rotation.{turnOf}
 use Rattle.vector.specs.declared.Vec3.{Vec3}
@@ -34,9 +33,10 @@ use Rattle.xpbd_joints.specs.Revolute.{drivenBy, angularMotorGiven}
 use Rattle.xpbd_joints.specs.Prismatic.{drivenAlong, linearMotorGiven, slideCorrection}
 use Rattle.xpbd_joints.specs.Spherical.{swingCorrection, twistCorrection}
 use Rattle.laws.proofs.Place.{real, Held}
-use Rattle.stages.specs.Stage.{Reads, fixedPoint, fixedAngle, hingePoint, hingeAlign, hingeLimit, slideAngle, slideAlign, ballPoint, ballSwing, ballTwist, tether, positional, Entry, Stage, limitAsked, turned₁, turned₂, between, asked, correctionOf, impulseOf, appliedTo, afterOf}
+use Rattle.stages.specs.Stage.{Reads, fixedPoint, fixedAngle, hingePoint, hingeAlign, hingeLimit, slideAngle, slideAlign, ballPoint, ballSwing, ballTwist, tether, positional, Entry, Stage, limitAsked, turned₁, turned₂, separation, asked, correctionOf, totalChange, appliedTo, afterOf}
 use Rattle.stages.specs.Steps.{Slot, added, Step, compliant, hingeMotor, slideMotor, Setting, Run, stageAt, isCalled, uncalled, hingeGiven, slideGiven, hingeDriven, slideDriven, stepped, run, MotorPush, pushMultiplier, Event, aStage, aPush, eventsOf, events}
-use Rattle.stages.proofs.Vec.{Finite3, Fits3, Held3, held3, add-fits3, sub-fits3, div-fits3, origin-fits3, root-fits, length-squared-fits, length-fits}
+use Rattle.stages.proofs.Choice.{either}
+use Rattle.stages.proofs.Vec.{Finite3, Fits3, Held3, held3, add-fits3, sub-fits3, div-fits3, origin-fits3, length-fits}
 use Rattle.stages.proofs.Back.{Calm, done-back, hinge-back, slide-back, run-back}
 
 pub record SoundStage (s : Stage) : Type 0 where
@@ -44,7 +44,7 @@ pub record SoundStage (s : Stage) : Type 0 where
   pub n-fits : Fits3 (correctionOf (s .entry) .n)
   pub soft-fits : T (fits binary32 (s .compliance))
   pub soft-up : T (le f0 (s .compliance))
-  pub impulse : Finite3 (impulseOf s)
+  pub change : Finite3 (totalChange s)
   pub d₁ : Held3 (s .entry .bodies .body1 .«delta_position»)
   pub d₂ : Held3 (s .entry .bodies .body2 .«delta_position»)
   pub q₁ : Held3 (effectiveInvMass (s .entry .inertia1))
@@ -98,19 +98,20 @@ pub record Fit (b : BodyPair) : Type 0 where
 abbrev FitAsked : Float → Vec3 → Type 0
 FitAsked c n = T (fits binary32 c) × Fits3 n
 
-pick-fits : (u v w : Bool) (x y z : DistanceCorrection) → FitAsked (x .magnitude) (x .direction) → FitAsked (y .magnitude) (y .direction) → FitAsked (z .magnitude) (z .direction)
-    → FitAsked ((if u then z else if v then x else if w then y else z) .magnitude) ((if u then z else if v then x else if w then y else z) .direction)
-pick-fits true v w x y z h k l = l
-pick-fits false true w x y z h k l = h
-pick-fits false false true x y z h k l = k
-pick-fits false false false x y z h k l = l
+abbrev CorrectionFits : DistanceCorrection → Type 0
+CorrectionFits c = FitAsked (c .magnitude) (c .direction)
 
-distance-fits : (l : DistanceLimit) (s : Vec3) → FitAsked (distanceCorrection l s .magnitude) (distanceCorrection l s .direction)
+distance-fits : (l : DistanceLimit) (s : Vec3) → CorrectionFits (distanceCorrection l s)
 unfolding distanceCorrection
 distance-fits l s =
-    let d = rootOf (lengthSquaredOf s) in
-    pick-fits (le (lengthSquaredOf s) epsilon) (lt d (l .min)) (lt (l .max) d) (record { direction = divOf s d; magnitude = l .min ⊖ d }) (record { direction = divOf (negOf s) d; magnitude = d ⊖ l .max }) uncorrected
-    (sub-fits binary32 (l .min) d, div-fits3 s d) (sub-fits binary32 d (l .max), div-fits3 (negOf s) d) (ofBits-fits binary32 0, origin-fits3)
+    let d = lengthOf s in
+    let longer : DistanceCorrection = record { direction = divOf s d; magnitude = l .min ⊖ d } in
+    let shorter : DistanceCorrection = record { direction = divOf (negOf s) d; magnitude = d ⊖ l .max } in
+    let none : CorrectionFits uncorrected = (ofBits-fits binary32 0, origin-fits3) in
+    let high = if lt (l .max) d then shorter else uncorrected in
+    either CorrectionFits (le (lengthSquaredOf s) epsilon) uncorrected (if lt d (l .min) then longer else high) none
+    (either CorrectionFits (lt d (l .min)) longer high (sub-fits binary32 (l .min) d, div-fits3 s d)
+    (either CorrectionFits (lt (l .max) d) shorter uncorrected (sub-fits binary32 d (l .max), div-fits3 (negOf s) d) none))
 
 rotation-fits : (d : Vec3) → FitAsked (lengthOf d) (divOf d (lengthOf d))
 rotation-fits d = (length-fits d, div-fits3 d (lengthOf d))
@@ -119,44 +120,40 @@ limit-fits : (e : Entry) (c : AngleCorrection) → FitAsked (limitAsked e c .err
 limit-fits e limit.None = (ofBits-fits binary32 0, origin-fits3)
 limit-fits e (limit.Some d) = rotation-fits d
 
-point-fits : (s : Vec3) → FitAsked (rootOf (lengthSquaredOf s)) (divOf (negOf s) (rootOf (lengthSquaredOf s)))
-point-fits s = (root-fits (lengthSquaredOf s) (length-squared-fits s), div-fits3 (negOf s) (rootOf (lengthSquaredOf s)))
+point-fits : (s : Vec3) → FitAsked (lengthOf s) (divOf (negOf s) (lengthOf s))
+point-fits s = (length-fits s, div-fits3 (negOf s) (lengthOf s))
 
 abbrev apart : Entry → Quat → Vec3
 apart e q = rotationDifference q (e .bodies .body1 .«delta_rotation») (e .bodies .body2 .«delta_rotation»)
 
 asked-fits : (k : Reads) (e : Entry) → FitAsked (asked k e .error) (asked k e .n)
-asked-fits (fixedPoint a b d) e = point-fits (between e a b d)
+asked-fits (fixedPoint a b d) e = point-fits (separation e a b d)
 asked-fits (fixedAngle q) e = rotation-fits (apart e q)
-asked-fits (hingePoint a b d) e = point-fits (between e a b d)
+asked-fits (hingePoint a b d) e = point-fits (separation e a b d)
 asked-fits (hingeAlign a b) e = rotation-fits (crossOf (turned₁ e a) (turned₂ e b))
 asked-fits (hingeLimit l a₁ b₁ b₂) e = limit-fits e (angleCorrection l (turned₁ e a₁) (turned₁ e b₁) (turned₂ e b₂) pi)
 asked-fits (slideAngle q) e = rotation-fits (apart e q)
-asked-fits (slideAlign l a b d axis) e = rotation-fits (slideCorrection l (between e a b d) (turned₁ e axis))
-asked-fits (ballPoint a b d) e = point-fits (between e a b d)
+asked-fits (slideAlign l a b d axis) e = rotation-fits (slideCorrection l (separation e a b d) (turned₁ e axis))
+asked-fits (ballPoint a b d) e = point-fits (separation e a b d)
 asked-fits (ballSwing l a₁ a₂) e = limit-fits e (swingCorrection l (turned₁ e a₁) (turned₂ e a₂))
 asked-fits (ballTwist l a₁ a₂ b₁ b₂) e = limit-fits e (twistCorrection l (turned₁ e a₁) (turned₂ e a₂) (turned₁ e b₁) (turned₂ e b₂) (e .dt))
-asked-fits (tether l a b d) e = distance-fits l (between e a b d)
+asked-fits (tether l a b d) e = distance-fits l (separation e a b d)
 
 correction-fits : (e : Entry) → FitAsked (correctionOf e .error) (correctionOf e .n)
 unfolding correctionOf
 correction-fits e = asked-fits (e .reads) e
 
 -- ---- a motor's shape
-shape-if : (cap dt : Float) (v : Bool) (g h : MotorLagrange) → Given cap dt g → Given cap dt h → Given cap dt (if v then g else h)
-shape-if cap dt true g h x y = x
-shape-if cap dt false g h x y = y
-
 lagrange-shape : (model : MotorModel) (cap v x w h : Float) → Given cap h (motorLagrange model cap v x w h)
 unfolding motorLagrange
 lagrange-shape model cap v x w h =
     let c = velocityChange model v x w h ⊗ h in
-    shape-if cap h (le (absOf c) epsilon) None (Some (capped (c ⊘ w) cap h)) given-none (given-some (c ⊘ w) (div-fits binary32 c w))
+    either (Given cap h) (le (absOf c) epsilon) None (Some (capped (c ⊘ w) cap h)) given-none (given-some (c ⊘ w) (div-fits binary32 c w))
 
 off-shape : (enabled : Bool) (cap w h : Float) (g : MotorLagrange) → Given cap h g → Given cap h (unlessOff enabled w g)
 unfolding unlessOff
 off-shape enabled cap w h g k =
-    shape-if cap h (not enabled) None (if le w epsilon then None else g) given-none (shape-if cap h (le w epsilon) None g given-none k)
+    either (Given cap h) (not enabled) None (if le w epsilon then None else g) given-none (either (Given cap h) (le w epsilon) None g given-none k)
 
 hinge-shape : (S : Setting) (m : AngularMotor) (a₁ b₁ b₂ : Vec3) (b : BodyPair) → Given (m .«max_torque») (S .dt) (hingeGiven S m a₁ b₁ b₂ b)
 unfolding angularMotorGiven
@@ -181,7 +178,7 @@ uncalled-fit true l r f = f
 uncalled-fit false l r f = f
 
 done-fit : (v : Bool) (l : Slot) (s : Stage) (r : Run) → Fit (s .entry .bodies) → Fit (r .bodies)
-    → Fit ((if v then record { bodies = afterOf s; totals = added l (impulseOf s) (r .totals) } else uncalled (correctionOf (s .entry) .still) l r) .bodies)
+    → Fit ((if v then record { bodies = afterOf s; totals = added l (totalChange s) (r .totals) } else uncalled (correctionOf (s .entry) .still) l r) .bodies)
 done-fit true l s r f g = after-fit s f
 done-fit false l s r f g = uncalled-fit (correctionOf (s .entry) .still) l r g
 
@@ -222,7 +219,7 @@ step-sound S o (compliant l k α) a r f h =
       n-fits = c .1;
       soft-fits = a .0;
       soft-up = a .1;
-      impulse = b .1 v;
+      change = b .1 v;
       d₁ = held3 (r .bodies .body1 .«delta_position») (f .p₁) (b .0 .still .d₁);
       d₂ = held3 (r .bodies .body2 .«delta_position») (f .p₂) (b .0 .still .d₂);
       q₁ = o .m₁;

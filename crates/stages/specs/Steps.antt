@@ -14,31 +14,27 @@ use Rattle.solver_body.specs.declared.SolverBodyInertia.{SolverBodyInertia}
 use Rattle.solver_body.specs.declared.BodyPair.{BodyPair}
 use Rattle.xpbd_joints.specs.Revolute.{drivenBy, angularMotorGiven}
 use Rattle.xpbd_joints.specs.Prismatic.{drivenAlong, linearMotorGiven}
-use Rattle.stages.specs.Stage.{Reads, Stage, correctionOf, impulseOf, afterOf}
+use Rattle.xpbd_plugin.specs.Joint.{totals}
+use Rattle.xpbd_plugin.specs.declared.JointTotals.{JointTotals}
+use Rattle.stages.specs.Stage.{Reads, Stage, correctionOf, totalChange, afterOf}
 
--- a joint's totals as the state has them
-pub record Totals : Type 0 where
-  pub t₁ : Vec3
-  pub t₂ : Vec3
-  pub t₃ : Vec3
-  pub t₄ : Vec3
-
+-- the place of a total
 pub data Slot : Type 0 where
   first second third fourth : Slot
 
-abbrev pub at : Slot → Totals → Vec3
-at first t = t .t₁
-at second t = t .t₂
-at third t = t .t₃
-at fourth t = t .t₄
+abbrev pub at : Slot → JointTotals → Vec3
+at first t = t .first
+at second t = t .second
+at third t = t .third
+at fourth t = t .fourth
 
-abbrev pub put : Slot → Vec3 → Totals → Totals
-put first v t = record { t₁ = v; t₂ = t .t₂; t₃ = t .t₃; t₄ = t .t₄ }
-put second v t = record { t₁ = t .t₁; t₂ = v; t₃ = t .t₃; t₄ = t .t₄ }
-put third v t = record { t₁ = t .t₁; t₂ = t .t₂; t₃ = v; t₄ = t .t₄ }
-put fourth v t = record { t₁ = t .t₁; t₂ = t .t₂; t₃ = t .t₃; t₄ = v }
+abbrev pub put : Slot → Vec3 → JointTotals → JointTotals
+put first v t = totals v (t .second) (t .third) (t .fourth)
+put second v t = totals (t .first) v (t .third) (t .fourth)
+put third v t = totals (t .first) (t .second) v (t .fourth)
+put fourth v t = totals (t .first) (t .second) (t .third) v
 
-abbrev pub added : Slot → Vec3 → Totals → Totals
+abbrev pub added : Slot → Vec3 → JointTotals → JointTotals
 added l p t = put l (addOf (at l t) p) t
 
 -- a compliance stage, with the place of its total; a hinge's motor, with its three prepared axes; a slide's motor, with its arms, the centres' difference and its axis
@@ -55,7 +51,7 @@ pub record Setting : Type 0 where
 
 pub record Run : Type 0 where
   pub bodies : BodyPair
-  pub totals : Totals
+  pub totals : JointTotals
 
 abbrev pub stageAt : Setting → Reads → Float → BodyPair → Stage
 stageAt S k α b =
@@ -71,7 +67,7 @@ uncalled false l r = record { bodies = r .bodies; totals = added l origin (r .to
 
 abbrev pub stageDone : Slot → Stage → Run → Run
 stageDone l s r =
-    if isCalled s then record { bodies = afterOf s; totals = added l (impulseOf s) (r .totals) }
+    if isCalled s then record { bodies = afterOf s; totals = added l (totalChange s) (r .totals) }
     else uncalled (correctionOf (s .entry) .still) l r
 
 -- what a motor's operation gives
@@ -85,16 +81,16 @@ slideGiven S m arm₁ arm₂ d axis b = linearMotorGiven m b (S .inertia1) (S .i
 -- a hinge's motor adds to the fourth total
 abbrev pub hingeDriven : Setting → MotorLagrange → Vec3 → Run → Run
 hingeDriven S g a r =
-    let s = drivenBy g (r .bodies) (S .inertia1 .«inv_angular_inertia») (S .inertia2 .«inv_angular_inertia») a (r .totals .t₄) in
+    let s = drivenBy g (r .bodies) (S .inertia1 .«inv_angular_inertia») (S .inertia2 .«inv_angular_inertia») a (r .totals .fourth) in
     record { bodies = s .bodies; totals = put fourth (s .«total_lagrange») (r .totals) }
 
 -- a slide's motor adds to the first total and to the x of the third
 abbrev pub slideDriven : Setting → MotorLagrange → Vec3 → Vec3 → Vec3 → Run → Run
 slideDriven S g r₁ r₂ a r =
     let t = r .totals in
-    let s = drivenAlong g (r .bodies) (S .inertia1) (S .inertia2) r₁ r₂ a (t .t₁) (t .t₃ .x) in
-    let t₃ : Vec3 = record { x = s .«total_motor_lagrange»; y = t .t₃ .y; z = t .t₃ .z } in
-    record { bodies = s .bodies; totals = record { t₁ = s .«total_position_lagrange»; t₂ = t .t₂; t₃ = t₃; t₄ = t .t₄ } }
+    let s = drivenAlong g (r .bodies) (S .inertia1) (S .inertia2) r₁ r₂ a (t .first) (t .third .x) in
+    let motor : Vec3 = record { x = s .«total_motor_lagrange»; y = t .third .y; z = t .third .z } in
+    record { bodies = s .bodies; totals = totals (s .«total_position_lagrange») (t .second) motor (t .fourth) }
 
 abbrev pub stepped : Setting → Step → Run → Run
 stepped S (compliant l k α) r = stageDone l (stageAt S k α (r .bodies)) r

@@ -12,10 +12,11 @@ use Rattle.joints.specs.declared.Joint.{Joint}
 use Rattle.solver_body.specs.Body.{dummyBody}
 use Rattle.solver_body.specs.declared.RigidBody.{RigidBody}
 use Rattle.solver_body.specs.declared.SolverBody.{SolverBody}
-use Rattle.tick.specs.Body.{restingBody, finishedBody}
-use Rattle.tick.specs.Joint.{noTotals}
+use Rattle.xpbd_plugin.specs.Joint.{noTotals}
+use Rattle.xpbd_plugin.specs.declared.JointTotals.{JointTotals}
+use Rattle.tick.specs.Body.{finishedBody}
+use Rattle.tick.specs.Parts.{restingBody}
 use Rattle.tick.specs.declared.body.BodyState.{BodyState}
-use Rattle.tick.specs.declared.joint.JointTotals.{JointTotals}
 use Rattle.card.specs.Layout.{maxBodies, maxJoints, bodyNumbers, totalsPlace}
 use Rattle.card.specs.Records.{dtOf}
 use Rattle.card.specs.declared.records.Header.{Header}

@@ -1,9 +1,11 @@
 -- Laws of the loops: the first turn, one turn more, a loop that is left early, and a list that is filled place by place.
 use Prim.Native.Nat.{ℕ, zero, suc, _+_, _≤_, _<_}
+use native.Mathlib.Nat.{eq-or-lt-of-le, le-of-suc-le-suc}
 use native.Mathlib.Numerals.{add-one}
 use native.Mathlib.Omega.{arith}
 use native.Mathlib.Decide.{le-ind}
-use mathlib.Core.Path.{_≡_, refl, sym, ap, _∙_}
+use mathlib.Core.Path.{_≡_, refl, sym, ap, _∙_, subst}
+use mathlib.Core.Logic.{inl, inr}
 use mathlib.Core.Bool.{Bool}
 use mathlib.Core.List.{List, [], _∷_, _++_}
 use lib.ListN.{length, getD, set, take, length-set}
@@ -45,6 +47,16 @@ module _ {S : Type 0} (f : ℕ → S → S) (s : S) where
   unfolding after
   after-all P zero base step = base
   after-all P (suc n) base step = step n (after f s n) (omega arith) (after-all P n base (λ i t h. step i t (omega arith)))
+
+  -- what a step leaves only where it was there before: there after n steps, there after fewer
+  pub after-back : (P : S → Type 0) → ((i : ℕ) (t : S) → P (f i t) → P t) → (i n : ℕ) → i ≤ n → P (after f s n) → P (after f s i)
+  unfolding after
+  after-back P k i zero h p = let e : i ≡ 0 = omega arith in rw e p
+  after-back P k i (suc n) h p =
+      elim (eq-or-lt-of-le h) [
+        | inl e ↦ subst (λ (m : ℕ). P (after f s m)) (sym e) p
+        | inr l ↦ after-back P k i n (le-of-suc-le-suc l) (k n (after f s n) p)
+      ]
 
 pub any-same : (p q : ℕ → Bool) (n : ℕ) → ((i : ℕ) → i < n → p i ≡ q i) → anyTo p n ≡ anyTo q n
 unfolding anyTo

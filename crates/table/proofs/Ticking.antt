@@ -11,11 +11,12 @@ use lib.Ieee.{Float, neg, le, lt, eq, ofBits}
 use borrow.Author.Tests.{eq-eqb, ne-eqb}
 use Rattle.scalar.specs.Arith.{if_then_else_}
 use Rattle.scalar.specs.Scalar.{isFinite, outside}
+use Rattle.xpbd_plugin.specs.Joint.{noTotals}
+use Rattle.xpbd_plugin.specs.declared.JointTotals.{JointTotals}
 use Rattle.tick.specs.Finite.{finite3, finite4}
-use Rattle.tick.specs.Body.{restingBody, tooFar, bodyFault}
-use Rattle.tick.specs.Joint.{noTotals}
+use Rattle.tick.specs.Body.{tooFar, bodyFault}
+use Rattle.tick.specs.Parts.{restingBody}
 use Rattle.tick.specs.declared.body.BodyState.{BodyState}
-use Rattle.tick.specs.declared.joint.JointTotals.{JointTotals}
 use Rattle.card.specs.Layout.{totalsPlace, stateLength}
 use Rattle.card.specs.Loop.{anyTo}
 use Rattle.card.proofs.Loops.{any-some}

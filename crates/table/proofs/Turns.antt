@@ -12,7 +12,8 @@ use borrow.Author.Tests.{eq-eqb, ne-eqb}
 use Rattle.scalar.specs.Arith.{if_then_else_}
 use Rattle.vector.specs.declared.Vec3.{Vec3}
 use Rattle.vector.specs.declared.Quat.{Quat}
-use Rattle.solver_body.specs.Body.{dummyBody, invalidIndex, isValid}
+use Rattle.solver_body.specs.Body.{dummyBody}
+use Rattle.solver_body.specs.Parts.{invalidIndex, isValid}
 use Rattle.joints.specs.declared.Joint.{Joint}
 use Rattle.joints.specs.declared.Joint.the-variants.{Fixed, Revolute, Prismatic, Spherical, Distance}
 use Rattle.solver_body.specs.declared.RigidBody.{RigidBody}
@@ -21,13 +22,13 @@ use Rattle.solver_body.specs.declared.SolverBody.{SolverBody}
 use Rattle.solver_body.specs.declared.BodyPair.{BodyPair}
 use Rattle.xpbd_joints.specs.Revolute.{revoluteWarmStarted}
 use Rattle.xpbd_joints.specs.Prismatic.{prismaticWarmStarted}
-use Rattle.xpbd_plugin.specs.Joint.{jointPrepared, jointWarmStarted}
+use Rattle.xpbd_plugin.specs.Joint.{jointPrepared, jointWarmStarted, noTotals}
+use Rattle.xpbd_plugin.specs.declared.JointTotals.{JointTotals}
 use Rattle.tick.specs.Body.{solverBodyOf, integrated}
-use Rattle.tick.specs.Joint.{noTotals, jointFinite}
+use Rattle.tick.specs.Joint.{jointFinite}
 use Rattle.tick.specs.Parts.{resultOf}
 use Rattle.tick.specs.declared.body.BodyState.{BodyState}
 use Rattle.tick.proofs.WarmValue.{any-warm-value}
-use Rattle.tick.specs.declared.joint.JointTotals.{JointTotals}
 use Rattle.tick.specs.declared.joint.JointResult.{JointResult}
 use Rattle.card.specs.Layout.{maxBodies, maxJoints, maxRate, jointPlace, jointFloats, stateLength}
 use Rattle.card.specs.Records.{jointBits, dtOf}

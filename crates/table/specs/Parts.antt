@@ -8,7 +8,7 @@ use Rattle.scalar.specs.Arith.{if_then_else_}
 use Rattle.vector.specs.Vector.{origin}
 use Rattle.vector.specs.declared.Vec3.{Vec3}
 use Rattle.joints.specs.declared.Joint.{Joint}
-use Rattle.solver_body.specs.Body.{invalidIndex, isValid}
+use Rattle.solver_body.specs.Parts.{invalidIndex, isValid}
 use Rattle.solver_body.specs.declared.RigidBody.{RigidBody}
 use Rattle.solver_body.specs.declared.SolverBody.{SolverBody}
 use Rattle.solver_body.specs.declared.SolverBodyIndex.{SolverBodyIndex}
@@ -16,11 +16,11 @@ use Rattle.solver_body.specs.declared.SolverBodyInertia.{SolverBodyInertia}
 use Rattle.solver_body.specs.declared.BodyPair.{BodyPair}
 use Rattle.xpbd_plugin.specs.Plugin.{dominatedOf}
 use Rattle.xpbd_plugin.specs.Joint.{jointPrepared, jointWarmStarted, jointSolved}
-use Rattle.tick.specs.Body.{integrated, restingBody, finishedBody}
+use Rattle.xpbd_plugin.specs.declared.JointTotals.{JointTotals}
+use Rattle.tick.specs.Body.{integrated, finishedBody}
 use Rattle.tick.specs.Joint.{warmValue}
-use Rattle.tick.specs.Parts.{resultOf}
+use Rattle.tick.specs.Parts.{restingBody, resultOf}
 use Rattle.tick.specs.declared.body.BodyState.{BodyState}
-use Rattle.tick.specs.declared.joint.JointTotals.{JointTotals}
 use Rattle.tick.specs.declared.joint.JointResult.{JointResult}
 use Rattle.card.specs.Layout.{bodyNumbers}
 use Rattle.card_records.specs.Decode.{inertiaAt, centerOfMassAt}

@@ -16,14 +16,14 @@ use Rattle.solver_body.specs.declared.RigidBody.{RigidBody}
 use Rattle.solver_body.specs.declared.SolverBody.{SolverBody}
 use Rattle.solver_body.specs.declared.BodyPair.{BodyPair}
 use Rattle.xpbd_plugin.specs.Plugin.{dominatedOf}
-use Rattle.xpbd_plugin.specs.Joint.{jointPrepared, jointWarmStarted, jointSolved}
+use Rattle.xpbd_plugin.specs.Joint.{jointPrepared, jointWarmStarted, jointSolved, noTotals, totalsOf}
 use Rattle.xpbd_plugin.specs.declared.InertiaPair.{InertiaPair}
 use Rattle.xpbd_plugin.specs.declared.PreparedJoint.{PreparedJoint}
 use Rattle.xpbd_plugin.specs.declared.JointSolved.{JointSolved}
+use Rattle.xpbd_plugin.specs.declared.JointTotals.{JointTotals}
 use Rattle.tick.specs.Body.{solverBodyOf, integrated, finishedBody, bodyFault}
-use Rattle.tick.specs.Joint.{noTotals, totalsOf, warmValue, jointFinite}
+use Rattle.tick.specs.Joint.{warmValue, jointFinite}
 use Rattle.tick.specs.declared.body.BodyState.{BodyState}
-use Rattle.tick.specs.declared.joint.JointTotals.{JointTotals}
 use Rattle.card.specs.Layout.{maxBodies, maxJoints, bodyNumbers, totalsPlace}
 use Rattle.card.specs.Loop.{anyTo}
 use Rattle.card.specs.Records.{bodyBits, jointBits, dtOf}

@@ -16,9 +16,9 @@ use solver_body::SolverBodyIndex;
 use solver_body::SolverBodyInertia;
 use tick::body::BodyState;
 use tick::body::integrate;
-use tick::joint::JointTotals;
 use vector::Quat;
 use vector::Vec3;
+use xpbd_plugin::JointTotals;
 
 // What a tick reads of a body of the card.
 pub struct TickBody {

@@ -33,10 +33,10 @@ use solver_body::SolverBody;
 use solver_body::SolverBodyIndex;
 use solver_body::SolverBodyInertia;
 use tick::body::BodyState;
-use tick::joint::JointTotals;
 use vector::Quat;
 use vector::SymmetricTensor;
 use vector::Vec3;
+use xpbd_plugin::JointTotals;
 
 // What the arrays hold before they are filled: all bits zero, which is cleared fastest. Nothing reads it.
 const CLEAR_TICK_BODY: TickBody = TickBody {

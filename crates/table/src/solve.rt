@@ -11,8 +11,8 @@ use solver_body::RigidBody;
 use solver_body::SolverBodyInertia;
 use tick::joint;
 use tick::joint::JointResult;
-use tick::joint::JointTotals;
 use vector::Vec3;
+use xpbd_plugin::JointTotals;
 use xpbd_plugin::dominated;
 
 // Where there is no joint: a tether of body 0 with itself.
@@ -63,7 +63,6 @@ pub fn warm_start_joint(
     )
 }
 
-// The solve asks for no warm value, so none is worked out.
 pub fn solve_joint(
     joint: Joint,
     body1: RigidBody,
@@ -76,14 +75,5 @@ pub fn solve_joint(
     ensures { λ r. ⌜ r ≡ solvedWith joint body1 body2 bodies inertia1 inertia2 dt ⌝ }
 {
     let i = dominated(inertia1, inertia2);
-    joint::solve_joint(
-        joint,
-        body1,
-        body2,
-        Vec3::ZERO,
-        bodies,
-        i.inertia1,
-        i.inertia2,
-        dt,
-    )
+    joint::solve_joint(joint, body1, body2, bodies, i.inertia1, i.inertia2, dt)
 }

@@ -15,7 +15,7 @@ use solver_body::SolverBody;
 use solver_body::SolverBodyIndex;
 use tick::body::BodyState;
 use tick::body::finish;
-use tick::joint::JointTotals;
+use xpbd_plugin::JointTotals;
 
 pub fn finished_or(
     index: SolverBodyIndex,

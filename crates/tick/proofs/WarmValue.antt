@@ -9,8 +9,8 @@ use Rattle.solver_body.specs.declared.SolverBodyInertia.{SolverBodyInertia}
 use Rattle.solver_body.specs.declared.BodyPair.{BodyPair}
 use Rattle.xpbd_joints.specs.Revolute.{revolutePrepared, revoluteSolved}
 use Rattle.xpbd_joints.specs.Prismatic.{prismaticPrepared, prismaticSolved}
-use Rattle.xpbd_plugin.specs.Joint.{jointPrepared, jointSolved}
-use Rattle.tick.specs.Joint.{totalsOf, preparedFinite, jointFinite}
+use Rattle.xpbd_plugin.specs.Joint.{jointPrepared, jointSolved, totalsOf}
+use Rattle.tick.specs.Joint.{preparedFinite, jointFinite}
 use Rattle.tick.specs.Parts.{resultOf}
 
 pub any-warm-value : (joint : Joint) (r₁ r₂ : RigidBody) (w v : Vec3) (b : BodyPair) (i₁ i₂ : SolverBodyInertia) (h : Float)

@@ -14,9 +14,6 @@ use Rattle.xpbd_plugin.specs.Plugin.{linearProjected, angularProjected}
 use Rattle.tick.specs.Finite.{finite3, finite4}
 use Rattle.tick.specs.declared.body.BodyState.{BodyState}
 
-abbrev pub restingBody : BodyState
-restingBody = record { position = origin; rotation = identity; «linear_velocity» = origin; «angular_velocity» = origin }
-
 -- deltas zero and identity
 unfoldable pub solverBodyOf : BodyState → SolverBody
 solverBodyOf b =

@@ -1,4 +1,4 @@
--- A joint's numbers in a tick: its warm value, its totals, and what refusal 13 looks at after its solve. Definitions only.
+-- A joint's numbers in a tick: its warm value, and what refusal 13 looks at after its solve. Definitions only.
 use mathlib.Core.Bool.{Bool, _&&_}
 use lib.Ieee.{Float}
 use Rattle.scalar.specs.Arith.{_⊘_, f0}
@@ -7,28 +7,12 @@ use Rattle.vector.specs.declared.Vec3.{Vec3}
 use Rattle.joints.specs.declared.Joint.{Joint}
 use Rattle.joints.specs.declared.Joint.the-variants as kind
 use Rattle.xpbd.specs.declared.point_constraint.PointConstraintShared.{PointConstraintShared}
+use Rattle.xpbd_plugin.specs.Joint.{totalsOf}
 use Rattle.xpbd_plugin.specs.declared.PreparedJoint.{PreparedJoint}
 use Rattle.xpbd_plugin.specs.declared.PreparedJoint.the-variants.{Fixed, Revolute, Prismatic, Spherical, Distance}
 use Rattle.xpbd_plugin.specs.declared.JointSolved.{JointSolved}
+use Rattle.xpbd_plugin.specs.declared.JointTotals.{JointTotals}
 use Rattle.tick.specs.Finite.{finite3, finite4, bodyFinite}
-use Rattle.tick.specs.declared.joint.JointTotals.{JointTotals}
-
--- ---- totals, in the order of document 01's 'State'
-
-abbrev pub totals : Vec3 → Vec3 → Vec3 → Vec3 → JointTotals
-totals a b c d = record { first = a; second = b; third = c; fourth = d }
-
-abbrev pub noTotals : JointTotals
-noTotals = totals origin origin origin origin
-
--- point, angle; point, align, limit, motor; position, angle, motor in x; point, swing, twist; one
-unfoldable pub totalsOf : PreparedJoint → JointTotals
-totalsOf (Fixed j k) = totals (k .«point_constraint» .«total_lagrange») (k .«angle_constraint» .«total_lagrange») origin origin
-totalsOf (Revolute j k) = totals (k .«point_constraint» .«total_lagrange») (k .«total_align_lagrange») (k .«total_limit_lagrange») (k .«total_motor_lagrange»)
-totalsOf (Prismatic j k) =
-    totals (k .«total_position_lagrange») (k .«angle_constraint» .«total_lagrange») (record { x = k .«total_motor_lagrange»; y = f0; z = f0 }) origin
-totalsOf (Spherical j k) = totals (k .«point_constraint» .«total_lagrange») (k .«total_swing_lagrange») (k .«total_twist_lagrange») origin
-totalsOf (Distance j k) = totals (k .«total_lagrange») origin origin origin
 
 -- the last motor total / dt
 unfoldable pub warmValue : Joint → JointTotals → Float → Vec3

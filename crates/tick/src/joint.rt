@@ -1,4 +1,4 @@
-// A joint in a tick: its warm start and its solve by kind, its totals, and whether all numbers are finite.
+// A joint in a tick: its warm start and its solve by kind, and whether all numbers are finite.
 ghost use mathlib.Core.Path.{_≡_};
 ghost use Rattle.vector.specs.Vector.{origin};
 ghost use Rattle.joints.specs.declared.Joint.the-variants as kind;
@@ -24,32 +24,7 @@ use xpbd_joints::fixed;
 use xpbd_joints::prismatic;
 use xpbd_joints::revolute;
 use xpbd_joints::spherical;
-
-// A joint's 12 numbers in the state.
-pub struct JointTotals {
-    pub first: Vec3,
-    pub second: Vec3,
-    pub third: Vec3,
-    pub fourth: Vec3,
-}
-
-impl JointTotals {
-    pub const ZERO: JointTotals = JointTotals {
-        first: Vec3::ZERO,
-        second: Vec3::ZERO,
-        third: Vec3::ZERO,
-        fourth: Vec3::ZERO,
-    };
-
-    fn finite(self) -> bool
-        ensures { λ r. ⌜ r ≡ totalsFinite self ⌝ }
-    {
-        vec3_finite(self.first)
-            & vec3_finite(self.second)
-            & vec3_finite(self.third)
-            & vec3_finite(self.fourth)
-    }
-}
+use xpbd_plugin::JointTotals;
 
 // The last motor total over dt; a prismatic joint's is its x.
 pub fn warm_value(joint: Joint, totals: JointTotals, dt: f32) -> Vec3
@@ -84,6 +59,15 @@ fn axes_finite(a1: Vec3, a2: Vec3, b1: Vec3, b2: Vec3) -> bool
     ensures { λ r. ⌜ r ≡ axesFinite a1 a2 b1 b2 ⌝ }
 {
     vec3_finite(a1) & vec3_finite(a2) & vec3_finite(b1) & vec3_finite(b2)
+}
+
+fn totals_finite(totals: JointTotals) -> bool
+    ensures { λ r. ⌜ r ≡ totalsFinite totals ⌝ }
+{
+    vec3_finite(totals.first)
+        & vec3_finite(totals.second)
+        & vec3_finite(totals.third)
+        & vec3_finite(totals.fourth)
 }
 
 // What a tick keeps of a joint's solve, before the test of the totals and the bodies.
@@ -128,15 +112,14 @@ fn solve_revolute(
     joint: RevoluteJoint,
     body1: RigidBody,
     body2: RigidBody,
-    warm_value: Vec3,
     bodies: BodyPair,
     inertia1: SolverBodyInertia,
     inertia2: SolverBodyInertia,
     dt: f32,
 ) -> JointKept
-    ensures { λ r. ⌜ r ≡ keptOf (jointSolved (jointPrepared (kind.Revolute joint) body1 body2 «warm_value») bodies inertia1 inertia2 dt) ⌝ }
+    ensures { λ r. ⌜ r ≡ keptOf (jointSolved (jointPrepared (kind.Revolute joint) body1 body2 origin) bodies inertia1 inertia2 dt) ⌝ }
 {
-    let prepared = revolute::prepare(joint, body1, body2, warm_value);
+    let prepared = revolute::prepare(joint, body1, body2, Vec3::ZERO);
     let solved = revolute::solve(joint, prepared, bodies, inertia1, inertia2, dt);
     let data = solved.solver_data;
     let moved = solved.bodies;
@@ -161,15 +144,14 @@ fn solve_prismatic(
     joint: PrismaticJoint,
     body1: RigidBody,
     body2: RigidBody,
-    warm_value: Vec3,
     bodies: BodyPair,
     inertia1: SolverBodyInertia,
     inertia2: SolverBodyInertia,
     dt: f32,
 ) -> JointKept
-    ensures { λ r. ⌜ r ≡ keptOf (jointSolved (jointPrepared (kind.Prismatic joint) body1 body2 «warm_value») bodies inertia1 inertia2 dt) ⌝ }
+    ensures { λ r. ⌜ r ≡ keptOf (jointSolved (jointPrepared (kind.Prismatic joint) body1 body2 origin) bodies inertia1 inertia2 dt) ⌝ }
 {
-    let prepared = prismatic::prepare(joint, body1, body2, warm_value.x);
+    let prepared = prismatic::prepare(joint, body1, body2, 0.0);
     let solved = prismatic::solve(joint, prepared, bodies, inertia1, inertia2, dt);
     let data = solved.solver_data;
     let moved = solved.bodies;
@@ -261,13 +243,12 @@ fn solve_by_kind(
     joint: Joint,
     body1: RigidBody,
     body2: RigidBody,
-    warm_value: Vec3,
     bodies: BodyPair,
     inertia1: SolverBodyInertia,
     inertia2: SolverBodyInertia,
     dt: f32,
 ) -> JointKept
-    ensures { λ r. ⌜ r ≡ keptOf (jointSolved (jointPrepared joint body1 body2 «warm_value») bodies inertia1 inertia2 dt) ⌝ }
+    ensures { λ r. ⌜ r ≡ keptOf (jointSolved (jointPrepared joint body1 body2 origin) bodies inertia1 inertia2 dt) ⌝ }
 {
     match joint {
         Joint::Fixed(fixed) => solve_fixed(fixed, body1, body2, bodies, inertia1, inertia2, dt),
@@ -275,7 +256,6 @@ fn solve_by_kind(
             revolute,
             body1,
             body2,
-            warm_value,
             bodies,
             inertia1,
             inertia2,
@@ -285,7 +265,6 @@ fn solve_by_kind(
             prismatic,
             body1,
             body2,
-            warm_value,
             bodies,
             inertia1,
             inertia2,
@@ -327,7 +306,7 @@ fn tested(kept: JointKept) -> JointResult
     let totals = kept.totals;
     JointResult {
         finite: kept.prepared_finite
-            & totals.finite()
+            & totals_finite(totals)
             & body_finite(bodies.body1)
             & body_finite(bodies.body2),
         bodies,
@@ -335,28 +314,19 @@ fn tested(kept: JointKept) -> JointResult
     }
 }
 
+// The solve reads no warm value: zero stands in for it.
 pub fn solve_joint(
     joint: Joint,
     body1: RigidBody,
     body2: RigidBody,
-    warm_value: Vec3,
     bodies: BodyPair,
     inertia1: SolverBodyInertia,
     inertia2: SolverBodyInertia,
     dt: f32,
 ) -> JointResult
-    ensures { λ r. ⌜ r ≡ resultOf (jointSolved (jointPrepared joint body1 body2 «warm_value») bodies inertia1 inertia2 dt) ⌝ }
+    ensures { λ r. ⌜ r ≡ resultOf (jointSolved (jointPrepared joint body1 body2 origin) bodies inertia1 inertia2 dt) ⌝ }
 {
-    tested(solve_by_kind(
-        joint,
-        body1,
-        body2,
-        warm_value,
-        bodies,
-        inertia1,
-        inertia2,
-        dt,
-    ))
+    tested(solve_by_kind(joint, body1, body2, bodies, inertia1, inertia2, dt))
 }
 
 pub fn warm_start_joint(

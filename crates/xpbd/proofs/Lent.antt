@@ -55,7 +55,7 @@ use Rattle.solver_body.proofs.SolverBodyInertia as I
 use Rattle.solver_body.proofs.SolverBodyInertia.Laws as I′
 use Rattle.solver_body.proofs.BodyPair as B
 use Rattle.solver_body.proofs.BodyPair.Laws as B′
-use Rattle.xpbd.specs.Positional.{pair}
+use Rattle.xpbd.specs.Parts.{pair}
 
 -- ---- a declared type that owns only facts
 pub record Plain : Type 2 where

@@ -1,8 +1,7 @@
 -- A point constraint: two anchors are brought together by a positional correction along the line between them (Müller 2020, equations (2) to (9)). Definitions only.
 use lib.Ieee.{Float, eq}
 use Rattle.scalar.specs.Arith.{if_then_else_, f0}
-use Rattle.root.specs.Root.{rootOf}
-use Rattle.vector.specs.Vector.{origin, addOf, negOf, divOf, lengthSquaredOf}
+use Rattle.vector.specs.Vector.{origin, addOf, negOf, divOf, lengthSquaredOf, lengthOf}
 use Rattle.vector.specs.Rotation.{turnOf}
 use Rattle.vector.specs.declared.Vec3.{Vec3}
 use Rattle.solver_body.specs.declared.RigidBody.{RigidBody}
@@ -41,7 +40,7 @@ pointSolved k b i₁ i₂ α h =
     let r₁ = turnOf (b .body1 .«delta_rotation») (k .«world_r1») in
     let r₂ = turnOf (b .body2 .«delta_rotation») (k .«world_r2») in
     let s = separationOf b r₁ r₂ (k .«center_difference») in
-    let c = rootOf (lengthSquaredOf s) in
+    let c = lengthOf s in
     if eq (lengthSquaredOf s) f0
     then record { constraint = k; bodies = b }
     else pointCorrected k (positionCorrected b i₁ i₂ r₁ r₂ (divOf (negOf s) c) c α h)

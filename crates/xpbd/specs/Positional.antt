@@ -33,9 +33,6 @@ unfoldable pub pulled : SolverBody → Vec3 → SymmetricTensor → Vec3 → Vec
 pulled b m I p r =
     withDelta b (subOf (b .«delta_position») (timesOf p m)) (productOf (deltaRot I r (negOf p)) (b .«delta_rotation»))
 
-abbrev pub pair : SolverBody → SolverBody → BodyPair
-pair b₁ b₂ = record { body1 = b₁; body2 = b₂ }
-
 -- (6) to (9)
 unfoldable pub impulseApplied : BodyPair → SolverBodyInertia → SolverBodyInertia → Vec3 → Vec3 → Vec3 → BodyPair
 impulseApplied b i₁ i₂ p r₁ r₂ =

@@ -9,7 +9,8 @@ use vector::SymmetricTensor;
 use vector::Vec3;
 ghost use mathlib.Core.Path.{_≡_};
 ghost use Rattle.solver_body.specs.Body.{effectiveInvMass};
-ghost use Rattle.xpbd.specs.Positional.{generalizedInverseMass, deltaRot, pushed, pulled, pair, impulseApplied, weight, correctionImpulse, anchorArm, centerDifference, separationOf};
+ghost use Rattle.xpbd.specs.Positional.{generalizedInverseMass, deltaRot, pushed, pulled, impulseApplied, weight, correctionImpulse, anchorArm, centerDifference, separationOf};
+ghost use Rattle.xpbd.specs.Parts.{pair};
 
 pub fn compute_generalized_inverse_mass(
     inv_mass: f32,

@@ -65,7 +65,7 @@ swingStage (Limited l) b I₁ I₂ a₁ a₂ total α h =
 unfoldable pub perpendicular : Vec3 → Vec3 → Vec3
 perpendicular b n = subOf b (scaleOf n (dotOf n b))
 
--- the longest correction: 2π, and h where the swing is wider than 120°
+-- the longest correction: 2π, and h where the swing is 120° or more
 unfoldable pub maxTwist : Float → Float → Float
 maxTwist cosine h = if lt (neg half) cosine then f2 ⊗ pi else h
 

@@ -1,4 +1,4 @@
--- Both bodies and the total after a stage that turns the bodies, and what a motor gives where it acts. Definitions only.
+-- Both bodies and the total after a stage, a stage that turns the bodies, and whether a motor acts. Definitions only.
 use mathlib.Core.Bool.{Bool, not}
 use lib.Ieee.{Float, le}
 use Rattle.scalar.specs.Arith.{if_then_else_, epsilon}

@@ -1,5 +1,5 @@
-use Rattle.xpbd_plugin.specs.Joint.{jointPrepared, jointSolved}
-use Rattle.tick.specs.Joint.{preparedFinite, totalsOf}
+use Rattle.xpbd_plugin.specs.Joint.{jointPrepared, jointSolved, totalsOf}
+use Rattle.tick.specs.Joint.{preparedFinite}
 use Rattle.tick.specs.Parts.{keptOf}
 use Rattle.tick.proofs.joint.solve_spherical.Statement.{statement}
 use Rattle.tick.proofs.joint.solve_spherical.Tie as tie

@@ -9,7 +9,7 @@ returns c =
     let c2 = c1 .before in
     let c3 = c2 .before in
     simp (
-      c3 .finite .ensures,
+      c3 .totals-finite .ensures,
       c1 .body-finite .ensures,
       c .body-finite2 .ensures,
     )

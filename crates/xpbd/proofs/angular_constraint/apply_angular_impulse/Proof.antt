@@ -29,7 +29,7 @@ use Rattle.vector.specs.declared.SymmetricTensor.{SymmetricTensor}
 use Rattle.vector.specs.Vector.{negOf}
 use Rattle.solver_body.specs.declared.SolverBody.{SolverBody}
 use Rattle.solver_body.proofs.SolverBody as T
-use Rattle.xpbd.specs.Positional.{pair}
+use Rattle.xpbd.specs.Parts.{pair}
 use Rattle.xpbd.specs.Angular.{turned, angularImpulseApplied}
 use Rattle.xpbd.proofs.Lent.{Plain, vector, tensor, body, valOf, rows, spells, valsOf, Fitting, tells, stays, typed, goes, freed, Loan, refAt, loanOf, pointer, replaces, Loans, taken, given-back}
 use Rattle.xpbd.proofs.angular_constraint.turn as turn

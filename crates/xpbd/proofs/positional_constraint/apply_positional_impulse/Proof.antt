@@ -29,7 +29,8 @@ use Rattle.solver_body.specs.Body.{effectiveInvMass}
 use Rattle.solver_body.specs.declared.SolverBody.{SolverBody}
 use Rattle.solver_body.specs.declared.SolverBodyInertia.{SolverBodyInertia}
 use Rattle.solver_body.proofs.SolverBody as T
-use Rattle.xpbd.specs.Positional.{pushed, pulled, pair, impulseApplied}
+use Rattle.xpbd.specs.Positional.{pushed, pulled, impulseApplied}
+use Rattle.xpbd.specs.Parts.{pair}
 use Rattle.xpbd.proofs.Lent.{Plain, vector, inertia, body, valOf, rows, spells, valsOf, Fitting, tells, stays, typed, goes, freed, Loan, refAt, loanOf, pointer, replaces, Loans, taken, given-back}
 use Rattle.xpbd.proofs.positional_constraint.push as push
 use Rattle.xpbd.proofs.positional_constraint.push.Symbol as push-def

@@ -1,6 +1,6 @@
 use Rattle.tick.specs.Joint.{totalsFinite}
-use Rattle.tick.proofs.joint.JointTotals.finite.Statement.{statement}
-use Rattle.tick.proofs.joint.JointTotals.finite.Tie as tie
+use Rattle.tick.proofs.joint.totals_finite.Statement.{statement}
+use Rattle.tick.proofs.joint.totals_finite.Tie as tie
 
 returns : tie.Need-returns
 unfolding totalsFinite
@@ -15,5 +15,5 @@ returns c =
       c .vec3-finite4 .ensures,
     )
 
-pub finite-spec : {M : Type 1} → statement M
-finite-spec = tie.close (tie.spec (λ _ _. tt) (λ _ _. tt) (λ _ _. tt) (λ _ _. tt) returns)
+pub totals-finite-spec : {M : Type 1} → statement M
+totals-finite-spec = tie.close (tie.spec (λ _ _. tt) (λ _ _. tt) (λ _ _. tt) (λ _ _. tt) returns)
