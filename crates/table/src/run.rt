@@ -83,11 +83,11 @@ fn run_checked(card: &[u8], state: &mut [f32], ticks: u32) -> Answer
     let joints = h.joints;
     let dt = h.dt();
     // The card's bodies and joints: decoded once for all ticks.
-    let mut table = [CLEAR_TICK_BODY; MAX_BODIES];
+    let mut card_bodies = [CLEAR_TICK_BODY; MAX_BODIES];
     let mut i = 0;
     while i < count {
         let t = card_body_at(card, i);
-        table[i] = t;
+        card_bodies[i] = t;
         i += 1;
     }
     let mut card_joints = [NO_JOINT; MAX_JOINTS];
@@ -109,7 +109,7 @@ fn run_checked(card: &[u8], state: &mut [f32], ticks: u32) -> Answer
         // The solver's bodies.
         i = 0;
         while i < count {
-            let t = table[i];
+            let t = card_bodies[i];
             let at = body_state_at(state, i);
             let b = moved(t.index, SolverBody::DUMMY, at.solver_body());
             bodies[i] = b;
@@ -126,8 +126,8 @@ fn run_checked(card: &[u8], state: &mut [f32], ticks: u32) -> Answer
             }
             let first = bits.body1;
             let second = bits.body2;
-            let t1 = table[first];
-            let t2 = table[second];
+            let t1 = card_bodies[first];
+            let t2 = card_bodies[second];
             let body1 = rigid_in(state, first, t1.center_of_mass);
             let body2 = rigid_in(state, second, t2.center_of_mass);
             let pair = BodyPair {
@@ -156,7 +156,7 @@ fn run_checked(card: &[u8], state: &mut [f32], ticks: u32) -> Answer
         // Gravity, the locks, and the deltas of the velocities.
         i = 0;
         while i < count {
-            let b = integrated_or(table[i], bodies[i], h.gravity, dt);
+            let b = integrated_or(card_bodies[i], bodies[i], h.gravity, dt);
             bodies[i] = b;
             i += 1;
         }
@@ -167,8 +167,8 @@ fn run_checked(card: &[u8], state: &mut [f32], ticks: u32) -> Answer
             let bits = joint_bits(card, count, j);
             let first = bits.body1;
             let second = bits.body2;
-            let t1 = table[first];
-            let t2 = table[second];
+            let t1 = card_bodies[first];
+            let t2 = card_bodies[second];
             let body1 = rigid_in(state, first, t1.center_of_mass);
             let body2 = rigid_in(state, second, t2.center_of_mass);
             let pair = BodyPair {
@@ -191,7 +191,7 @@ fn run_checked(card: &[u8], state: &mut [f32], ticks: u32) -> Answer
         // The new numbers: all of them are looked at before one is written.
         i = 0;
         while i < count {
-            let t = table[i];
+            let t = card_bodies[i];
             let body = rigid_in(state, i, t.center_of_mass);
             let b = finished_or(t.index, body, pre_solve[i], bodies[i], dt);
             if b.fault() {
@@ -202,7 +202,7 @@ fn run_checked(card: &[u8], state: &mut [f32], ticks: u32) -> Answer
         }
         i = 0;
         while i < count {
-            let t = table[i];
+            let t = card_bodies[i];
             store_body(state, i, t.index, new[i]);
             i += 1;
         }
