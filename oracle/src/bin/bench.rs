@@ -1,6 +1,7 @@
 //! The cost of a tick of the oracle and of the Rattle, on the same cards, as tables in Markdown. A round is 100 ticks from the start state.
 //!
-//! - `bench time [ROUNDS]`: nanoseconds. Each round goes through all cards, and on each card both sides by turns.
+//! - `bench time [ROUNDS]`: nanoseconds, over so many rounds in each of several processes.
+//! - `bench samples ROUNDS`: what one of these processes measures. Each round goes through all cards, and on each card both sides by turns.
 //! - `bench mixed`: what the mixed card has.
 //! - `bench instructions`: instructions, counted by valgrind's callgrind over `bench rounds`.
 //! - `bench rounds SIDE CALL CARD ROUNDS`: so many rounds of one side (`oracle`, `rattle`) by one call (`tick`, `run`), and nothing else that depends
@@ -16,6 +17,9 @@ use std::process::Command;
 use std::time::Instant;
 
 const TICKS: u32 = 100;
+
+/// Where a process's stack and heap lie decides up to a tenth of its times, so that they are taken from several.
+const PROCESSES: usize = 11;
 const SIDES: [&str; 2] = ["oracle", "rattle"];
 const CALLS: [&str; 2] = ["tick", "run"];
 
@@ -180,10 +184,13 @@ fn median(numbers: &mut [f64]) -> f64 {
     numbers[numbers.len() / 2]
 }
 
-/// The median and the least of the times of each case.
-fn times(cases: &[Case], rounds: usize) -> Vec<(Figures, Figures)> {
+/// The times of a case, for each call those of the oracle and of the Rattle.
+type Samples = [[Vec<f64>; 2]; 2];
+
+/// Times of each case in this process.
+fn samples(cases: &[Case], rounds: usize) -> Vec<Samples> {
     let tables = SIDES.map(side);
-    let mut lists: Vec<[[Vec<f64>; 2]; 2]> = cases.iter().map(|_| Default::default()).collect();
+    let mut lists: Vec<Samples> = cases.iter().map(|_| Default::default()).collect();
     for _ in 0..rounds {
         for (case, lists) in cases.iter().zip(&mut lists) {
             let mut states = [case.start.clone(), case.start.clone()];
@@ -198,7 +205,34 @@ fn times(cases: &[Case], rounds: usize) -> Vec<(Figures, Figures)> {
             }
         }
     }
-    let both = |mut lists: [[Vec<f64>; 2]; 2]| {
+    lists
+}
+
+/// A line for each list of times, in the order of the cases.
+fn print_samples(rounds: usize) {
+    for list in samples(&cases(), rounds).iter().flatten().flatten() {
+        let times: Vec<String> = list.iter().map(f64::to_string).collect();
+        println!("{}", times.join(" "));
+    }
+}
+
+/// The median and the least of the times of each case, over all processes.
+fn times(cases: &[Case], rounds: usize) -> Vec<(Figures, Figures)> {
+    let mut lists: Vec<Samples> = cases.iter().map(|_| Default::default()).collect();
+    for _ in 0..PROCESSES {
+        let output = Command::new(env::current_exe().unwrap())
+            .args(["samples", &rounds.to_string()])
+            .output()
+            .expect("this program runs");
+        assert!(output.status.success(), "a process failed");
+        let text = String::from_utf8(output.stdout).expect("numbers");
+        let mut lines = text.lines();
+        for list in lists.iter_mut().flatten().flatten() {
+            let line = lines.next().expect("a line for each list");
+            list.extend(line.split(' ').map(|time| time.parse::<f64>().unwrap()));
+        }
+    }
+    let both = |mut lists: Samples| {
         let medians = lists
             .each_mut()
             .map(|list| list.each_mut().map(|list| median(list)));
@@ -297,7 +331,7 @@ fn print_times(rounds: usize) {
     cases.iter().for_each(assert_sensible);
     let times = times(&cases, rounds);
     for (call, name) in CALLS.iter().enumerate() {
-        println!("Nanoseconds a tick by `{name}`, over {rounds} rounds:\n");
+        println!("Nanoseconds a tick by `{name}`, over {rounds} rounds in each of {PROCESSES} processes:\n");
         head("card | oracle, median | Rattle, median | ratio | oracle, least | Rattle, least | ratio | Rattle a joint, median");
         for (case, (medians, least)) in cases.iter().zip(&times) {
             let mut cells = vec![case.name.clone()];
@@ -375,8 +409,9 @@ fn main() {
     let words: Vec<String> = env::args().skip(1).collect();
     let words: Vec<&str> = words.iter().map(String::as_str).collect();
     match words[..] {
-        ["time"] => print_times(101),
+        ["time"] => print_times(9),
         ["time", rounds] => print_times(rounds.parse().expect("a number of rounds")),
+        ["samples", rounds] => print_samples(rounds.parse().expect("a number of rounds")),
         ["instructions"] => print_instructions(),
         ["mixed"] => print_mixed(),
         ["rounds", name, call, card, rounds] => {
@@ -387,6 +422,6 @@ fn main() {
                 round(&table, call, &case, &mut state);
             }
         }
-        _ => panic!("bench time [ROUNDS] | instructions | mixed | rounds SIDE CALL CARD ROUNDS"),
+        _ => panic!("bench time [ROUNDS] | samples ROUNDS | instructions | mixed | rounds SIDE CALL CARD ROUNDS"),
     }
 }
