@@ -6,7 +6,7 @@ ghost use mathlib.Core.Path.{_≡_};
 ghost use Rattle.solver_body.specs.Body.{unlocked, effectiveInvMass};
 ghost use Rattle.solver_body.specs.Parts.{isValid};
 
-// A position's coordinate may be as large: refusals 12 and 13.
+// The largest size of a position's coordinate: refusals 12 and 13.
 pub const POSITION_BOUND: f32 = 4096.0;
 
 // What a joint's `prepare` reads of a body.
