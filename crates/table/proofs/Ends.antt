@@ -17,7 +17,7 @@ use Rattle.xpbd_plugin.specs.declared.JointTotals.{JointTotals}
 use Rattle.tick.specs.Body.{finishedBody}
 use Rattle.tick.specs.Parts.{restingBody}
 use Rattle.tick.specs.declared.body.BodyState.{BodyState}
-use Rattle.card.specs.Layout.{maxBodies, maxJoints, bodyNumbers, totalsPlace}
+use Rattle.card.specs.Layout.{maxJoints, bodyNumbers, totalsPlace}
 use Rattle.card.specs.Records.{dtOf}
 use Rattle.card.specs.declared.records.Header.{Header}
 use Rattle.card_records.specs.State.{numbers3}
@@ -26,7 +26,7 @@ use Rattle.table.specs.Tick.{bodyStateNumbers, totalsNumbers, storeTotal
 use Rattle.table.specs.Parts.{rigidIn, finishedOr, storeMoving}
 use Rattle.table.specs.declared.load.TickBody.{TickBody}
 use Rattle.table.proofs.Loops.{getD-in, take-getD}
-use Rattle.table.proofs.Turns.{unreadBody, unreadTickBody, unreadState, unreadTotals, Decoded, Running, valid-is, rigid-is}
+use Rattle.table.proofs.Turns.{places, unreadBody, unreadTickBody, unreadState, unreadTotals, Decoded, Running, valid-is, rigid-is}
 
 finish-as : (a : Bool) (b : BodyState) → (if not a then b else restingBody) ≡ (if a then restingBody else b)
 finish-as true b = refl
@@ -46,14 +46,14 @@ module _ (card : List ℕ) (h : Header) (s : List Float) where
     abbrev at : TickBody
     at = getD table i unreadTickBody
 
-    pub finish-is : {bodies : List SolverBody} (pre : List SolverBody) {totals : List JointTotals} → Running card h s (h .joints) bodies totals → length bodies ≡ maxBodies
-        → take (h .bodies) pre ≡ take (h .bodies) (preSolve card h s) → length pre ≡ maxBodies → {dt : Float} → dt ≡ dtOf h
+    pub finish-is : {bodies : List SolverBody} (pre : List SolverBody) {totals : List JointTotals} → Running card h s (h .joints) bodies totals → length bodies ≡ places
+        → take (h .bodies) pre ≡ take (h .bodies) (preSolve card h s) → length pre ≡ places → {dt : Float} → dt ≡ dtOf h
         → {r : RigidBody} → r ≡ rigidIn s i (at .«center_of_mass») → {b : BodyState} → b ≡ finishedOr (at .index) r (getD pre i unreadBody) (getD bodies i unreadBody) dt
         → b ≡ made i
     unfolding finishedOr newBody
     finish-is {bodies} pre R lb ep lp ed er eb =
         let σ = before card h s (h .joints) in
-        let short : i < maxBodies = omega (arith, k, D .sound .few-bodies) in
+        let short : i < places = omega (arith, k, D .sound .few-bodies) in
         let b₁ = getD-in pre i unreadBody dummyBody (rw lp short) ∙ take-getD (h .bodies) pre (preSolve card h s) ep dummyBody i k in
         let b₂ = getD-in bodies i unreadBody dummyBody (rw lb short) ∙ take-getD (h .bodies) bodies (σ .bodies) (R .bodies-as) dummyBody i k in
         eb

@@ -30,9 +30,9 @@ module _ {S : Type 0} (f : ℕ → S → S) (s : S) where
   after-done {i} {n} {t} inv a b = let e : n ≡ i = omega arith in rw e inv
 
   -- a turn from what looks alike: it is the loop's own state as far as π sees
-  pub after-alike : {R : Type 0} (π : S → R) {i : ℕ} {t v : S} → ((u : S) → π t ≡ π u → π (f i t) ≡ π (f i u)) → π t ≡ π (after f s i) → v ≡ f i t
+  pub after-alike : {R : Type 0} (π : S → R) {i : ℕ} {t v : S} → ((u : S) → π t ≡ π u → π (f i t) ≡ π (f i u)) → π t ≡ π (after f s i) → π v ≡ π (f i t)
       → π v ≡ π (after f s (i + 1))
-  after-alike π {i} alike inv e = ap π e ∙ alike (after f s i) inv ∙ ap π (sym (after-more i))
+  after-alike π {i} alike inv e = e ∙ alike (after f s i) inv ∙ ap π (sym (after-more i))
 
   pub alike-done : {R : Type 0} (π : S → R) {i n : ℕ} {r : R} → r ≡ π (after f s i) → i ≤ n → n ≤ i → r ≡ π (after f s n)
   alike-done π {i} {n} inv a b = let e : n ≡ i = omega arith in rw e inv

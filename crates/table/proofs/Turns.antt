@@ -5,7 +5,7 @@ use mathlib.Core.Path.{_≡_, refl, sym, ap, _∙_}
 use mathlib.Core.Bool.{Bool, true, false, not}
 use mathlib.Core.List.{List}
 use lib.ListN.{length, getD, set, take, replicate, length-set, length-replicate, getD-replicate}
-use lib.Seq.{set-getD}
+use lib.Seq.{set-getD, take-set-le}
 use lib.IntN.{pos}
 use lib.Ieee.{Float, nan}
 use borrow.Author.Tests.{eq-eqb, ne-eqb}
@@ -19,6 +19,7 @@ use Rattle.joints.specs.declared.Joint.the-variants.{Fixed, Revolute, Prismatic
 use Rattle.solver_body.specs.declared.RigidBody.{RigidBody}
 use Rattle.solver_body.specs.declared.SolverBodyInertia.{SolverBodyInertia}
 use Rattle.solver_body.specs.declared.SolverBody.{SolverBody}
+use Rattle.solver_body.specs.declared.SolverBodyIndex.{SolverBodyIndex}
 use Rattle.solver_body.specs.declared.BodyPair.{BodyPair}
 use Rattle.xpbd_joints.specs.Revolute.{revoluteWarmStarted}
 use Rattle.xpbd_joints.specs.Prismatic.{prismaticWarmStarted}
@@ -38,7 +39,7 @@ use Rattle.card_records.specs.Decode.{inertiaAt, angularMotorAt, linearMotorAt,
 use Rattle.card_records.specs.declared.joint.CardJoint.the-variants.{Unknown}
 use Rattle.table.specs.Loop.{after}
 use Rattle.table.specs.Tick.{Solved, bodyStateAt, totalsAt, anchoredAt, rigidAt, putMoving, loadNext, knownJoint, loaded, warmStarted, firstBody, secondBody, inertiasAt, preparedAt, pairAt, putPair, warmStartedAt, warmStartNext, integrateNext, preSolve, solvedAt, putSolved, stop, solveNext, before}
-use Rattle.table.specs.Parts.{indexOf, cardBodyAt, rigidIn, moved, integratedOr, warmStartedWith, solvedWith}
+use Rattle.table.specs.Parts.{indexOf, cardBodyAt, rigidIn, moved, placeOf, integratedOr, warmStartedWith, solvedWith}
 use Rattle.table.specs.declared.load.TickBody.{TickBody}
 use Rattle.table.proofs.Loops.{after-none, after-more, after-alike, alike-done, after-done, after-kept, getD-in, fill, fill-past, fill-take, take-getD, take-set, take-turn}
 
@@ -77,6 +78,10 @@ unreadTickBody =
 
 -- ---- one place among the solver's bodies
 
+-- the card's bodies, and the place behind them
+abbrev pub places : ℕ
+places = maxBodies + 1
+
 pub valid-as : (a : Bool) (i : ℕ) → i < maxBodies → isValid (indexOf a i) ≡ not a
 unfolding indexOf
 valid-as true i h = refl
@@ -87,6 +92,21 @@ put-as : (a : Bool) (i : ℕ) → i < maxBodies → (bodies : List SolverBody) (
 unfolding moved
 put-as true i h bodies d b = rw (valid-as true i h) (set-getD bodies i d)
 put-as false i h bodies d b = rw (valid-as false i h)
+
+-- what goes behind the card's bodies is not among them
+place-as : (n : ℕ) → n ≤ maxBodies → (a : Bool) (i : ℕ) → i < maxBodies → (bodies : List SolverBody) (b : SolverBody)
+    → take n (set bodies (placeOf (indexOf a i) i) b) ≡ take n (if a then bodies else set bodies i b)
+unfolding placeOf
+place-as n few true i h bodies b = rw (valid-as true i h) (take-set-le n bodies maxBodies b few)
+place-as n few false i h bodies b = rw (valid-as false i h)
+
+below-places : (v : Bool) (i : ℕ) → i < maxBodies → (if v then i else maxBodies) < places
+below-places true i h = omega (arith, h)
+below-places false i h = omega arith
+
+pub place-in : (k : SolverBodyIndex) (i : ℕ) → i < maxBodies → placeOf k i < places
+unfolding placeOf
+place-in k i h = below-places (isValid k) i h
 
 -- ---- what stands before a tick
 
@@ -141,7 +161,7 @@ load-fills card s (suc n) h =
     ∙ fill-as (anchoredAt card n) n (after (fill (loadedBody card s)) blank n) (solverBodyOf (bodyStateAt s n))
     (fill-past (loadedBody card s) blank dummyBody n n (omega arith) ∙ getD-replicate maxBodies n dummyBody dummyBody (omega arith))
 
-pub loaded-done : (card : List ℕ) (h : Header) (s : List Float) → h .bodies ≤ maxBodies → (l : List SolverBody) → length l ≡ maxBodies → {i : ℕ} {bodies : List SolverBody}
+pub loaded-done : (card : List ℕ) (h : Header) (s : List Float) → h .bodies ≤ maxBodies → (l : List SolverBody) → length l ≡ places → {i : ℕ} {bodies : List SolverBody}
     → bodies ≡ after (fill (loadedBody card s)) l i → i ≤ h .bodies → h .bodies ≤ i
     → take (h .bodies) bodies ≡ take (h .bodies) (after (warmStartNext card h s) (loaded card h s) 0)
 unfolding loaded
@@ -149,7 +169,7 @@ loaded-done card h s few l el e a b =
     let v = loadedBody card s in
     let blank = replicate maxBodies dummyBody in
     ap (λ t. take (h .bodies) t) (after-done (fill v) l e a b)
-    ∙ fill-take v l blank (h .bodies) (rw el few) (rw (length-replicate maxBodies dummyBody) few)
+    ∙ fill-take v l blank (h .bodies) (rw el (omega (arith, few))) (rw (length-replicate maxBodies dummyBody) few)
     ∙ ap (λ t. take (h .bodies) t) (sym (load-fills card s (h .bodies) few) ∙ sym (after-none (warmStartNext card h s) (loaded card h s)))
 
 module _ (card : List ℕ) (h : Header) (s : List Float) (bodies : List SolverBody) where
@@ -300,13 +320,17 @@ module _ (card : List ℕ) (h : Header) (s : List Float) {table : List TickBody}
       → set bodies i (moved (at i .index) (getD bodies i unreadBody) b) ≡ putMoving card i b bodies
   put-is i k bodies b = rw (index-is i k) (put-as (anchoredAt card i) i (omega (arith, k, S .few-bodies)) bodies unreadBody b)
 
-  pub load-turn : (i : ℕ) → i < h .bodies → {a : BodyState} {b c : SolverBody} → a ≡ bodyStateAt s i → c ≡ solverBodyOf a → b ≡ moved (at i .index) dummyBody c
+  place-is : (i : ℕ) → i < h .bodies → (bodies : List SolverBody) (b : SolverBody)
+      → take (h .bodies) (set bodies (placeOf (at i .index) i) b) ≡ take (h .bodies) (putMoving card i b bodies)
+  place-is i k bodies b = rw (index-is i k) (place-as (h .bodies) (S .few-bodies) (anchoredAt card i) i (omega (arith, k, S .few-bodies)) bodies b)
+
+  pub load-turn : (i : ℕ) → i < h .bodies → {a : BodyState} {b : SolverBody} → a ≡ bodyStateAt s i → b ≡ moved (at i .index) dummyBody (solverBodyOf a)
       → b ≡ loadedBody card s i
-  load-turn i k ea ec eb = rw (eb, ec, ea, index-is i k) (load-as (anchoredAt card i) i (omega (arith, k, S .few-bodies)) (solverBodyOf (bodyStateAt s i)))
+  load-turn i k ea eb = rw (eb, ea, index-is i k) (load-as (anchoredAt card i) i (omega (arith, k, S .few-bodies)) (solverBodyOf (bodyStateAt s i)))
 
   -- ---- gravity, locks and deltas
 
-  integrate-is : (i : ℕ) → i < h .bodies → (bodies : List SolverBody) → length bodies ≡ maxBodies → {b : SolverBody} {dt : Float}
+  integrate-is : (i : ℕ) → i < h .bodies → (bodies : List SolverBody) → length bodies ≡ places → {b : SolverBody} {dt : Float}
       → dt ≡ dtOf h → b ≡ integratedOr (at i) (getD bodies i unreadBody) (h .gravity) dt → set bodies i b ≡ integrateNext card h s i bodies
   unfolding integratedOr cardBodyAt
   integrate-is i k bodies lb ed eb =
@@ -321,12 +345,13 @@ module _ (card : List ℕ) (h : Header) (s : List Float) {table : List TickBody}
       ap (λ b. take (h .bodies) (putMoving card i (integrated b (inertiaAt card i) (h .gravity) (dtOf h)) l)) (take-getD (h .bodies) l m e dummyBody i k)
       ∙ put-alike (h .bodies) (anchoredAt card i) i k (integrated (getD m i dummyBody) (inertiaAt card i) (h .gravity) (dtOf h)) l m e
 
-  pub integrate-turn : (i : ℕ) → i < h .bodies → (bodies : List SolverBody) → length bodies ≡ maxBodies → {b : SolverBody} {dt : Float}
+  pub integrate-turn : (i : ℕ) → i < h .bodies → (bodies : List SolverBody) → length bodies ≡ places → {b : SolverBody} {dt : Float}
       → dt ≡ dtOf h → b ≡ integratedOr (at i) (getD bodies i unreadBody) (h .gravity) dt
       → take (h .bodies) bodies ≡ take (h .bodies) (after (integrateNext card h s) (warmStarted card h s) i)
       → take (h .bodies) (set bodies i b) ≡ take (h .bodies) (after (integrateNext card h s) (warmStarted card h s) (i + 1))
   integrate-turn i k bodies lb ed eb inv =
-      after-alike (integrateNext card h s) (warmStarted card h s) (λ l. take (h .bodies) l) (λ u. integrate-alike i k bodies u) inv (integrate-is i k bodies lb ed eb)
+      after-alike (integrateNext card h s) (warmStarted card h s) (λ l. take (h .bodies) l) (λ u. integrate-alike i k bodies u) inv
+      (ap (λ l. take (h .bodies) l) (integrate-is i k bodies lb ed eb))
 
   -- ---- joints
 
@@ -363,9 +388,9 @@ module _ (card : List ℕ) (h : Header) (s : List Float) {table : List TickBody}
     warm-skip bodies {b} eb em inv =
         let off = motorless card (jointBits card (h .bodies) j) (jointFloats (h .bodies) j) (rw eb at em) in
         after-alike (warmStartNext card h s) (loaded card h s) (λ l. take (h .bodies) l) (λ u. warm-alike bodies u) inv
-        (sym (ap (λ p. putPair card h s j p bodies) (unwarmed _ off _ _ _ _ _ _ _) ∙ put-back card h s j bodies))
+        (ap (λ l. take (h .bodies) l) (sym (ap (λ p. putPair card h s j p bodies) (unwarmed _ off _ _ _ _ _ _ _) ∙ put-back card h s j bodies)))
 
-    module _ (bodies : List SolverBody) (lb : length bodies ≡ maxBodies) {b : JointBits} (eb : b ≡ jointBits card (h .bodies) j) where
+    module _ (bodies : List SolverBody) (lb : length bodies ≡ places) {b : JointBits} (eb : b ≡ jointBits card (h .bodies) j) where
       abbrev pairOf : BodyPair
       pairOf = record { body1 = getD bodies (b .body1) unreadBody; body2 = getD bodies (b .body2) unreadBody }
 
@@ -383,14 +408,15 @@ module _ (card : List ℕ) (h : Header) (s : List Float) {table : List TickBody}
       second-is = rw eb (D .body unreadTickBody (secondBody card h s j) second-in)
 
       -- both bodies put back, one after the other
-      put-both : (pair : BodyPair) {b₁ b₂ : SolverBody} → b₁ ≡ moved (at (b .body1) .index) (getD bodies (b .body1) unreadBody) (pair .body1)
-          → b₂ ≡ moved (at (b .body2) .index) (getD (set bodies (b .body1) b₁) (b .body2) unreadBody) (pair .body2)
-          → set (set bodies (b .body1) b₁) (b .body2) b₂ ≡ putPair card h s j pair bodies
-      put-both pair {b₁} {b₂} e₁ e₂ =
+      put-both : (pair : BodyPair) {p₁ p₂ : ℕ} → p₁ ≡ placeOf (at (b .body1) .index) (b .body1) → p₂ ≡ placeOf (at (b .body2) .index) (b .body2)
+          → take (h .bodies) (set (set bodies p₁ (pair .body1)) p₂ (pair .body2)) ≡ take (h .bodies) (putPair card h s j pair bodies)
+      put-both pair {p₁} {p₂} e₁ e₂ =
           let f = firstBody card h s j in
-          let p = put-is f first-in bodies (pair .body1) in
-          let q = put-is (secondBody card h s j) second-in (set bodies f b₁) (pair .body2) in
-          rw eb (rw (rw eb at e₂) (q ∙ ap (λ l. putMoving card (secondBody card h s j) (pair .body2) l) (rw (rw eb at e₁) p)))
+          let g = secondBody card h s j in
+          let l = set bodies p₁ (pair .body1) in
+          rw (rw eb at e₂)
+          (place-is g second-in l (pair .body2)
+          ∙ put-alike (h .bodies) (anchoredAt card g) g second-in (pair .body2) l (putMoving card f (pair .body1) bodies) (rw (rw eb at e₁) (place-is f first-in bodies (pair .body1))))
 
       module _ (d : Joint) {r₁ r₂ : RigidBody} (er₁ : r₁ ≡ rigidIn s (b .body1) (at (b .body1) .«center_of_mass»)) (er₂ : r₂ ≡ rigidIn s (b .body2) (at (b .body2) .«center_of_mass»)) where
         rigid₁ : r₁ ≡ rigidAt card s (firstBody card h s j)
@@ -399,8 +425,8 @@ module _ (card : List ℕ) (h : Header) (s : List Float) {table : List TickBody}
         rigid₂ : r₂ ≡ rigidAt card s (secondBody card h s j)
         rigid₂ = rigid-is (secondBody card h s j) second-in (rw eb at er₂)
 
-        module _ {pair : BodyPair} {b₁ b₂ : SolverBody} (e₁ : b₁ ≡ moved (at (b .body1) .index) (getD bodies (b .body1) unreadBody) (pair .body1))
-            (e₂ : b₂ ≡ moved (at (b .body2) .index) (getD (set bodies (b .body1) b₁) (b .body2) unreadBody) (pair .body2)) {dt : Float} (ed : dt ≡ dtOf h) where
+        module _ {pair : BodyPair} {p₁ p₂ : ℕ} (e₁ : p₁ ≡ placeOf (at (b .body1) .index) (b .body1)) (e₂ : p₂ ≡ placeOf (at (b .body2) .index) (b .body2))
+            {dt : Float} (ed : dt ≡ dtOf h) where
           warm-is : {last : JointTotals} → last ≡ totalsAt s (h .bodies) j
               → pair ≡ warmStartedWith (getD held j d) r₁ r₂ last pairOf (at (b .body1) .inertia) (at (b .body2) .inertia) (h .«warm_coefficient») dt
               → pair ≡ warmStartedAt card h s j bodies
@@ -410,10 +436,10 @@ module _ (card : List ℕ) (h : Header) (s : List Float) {table : List TickBody}
           pub warm-turn : {last : JointTotals} → last ≡ totalsAt s (h .bodies) j
               → pair ≡ warmStartedWith (getD held j d) r₁ r₂ last pairOf (at (b .body1) .inertia) (at (b .body2) .inertia) (h .«warm_coefficient») dt
               → take (h .bodies) bodies ≡ take (h .bodies) (after (warmStartNext card h s) (loaded card h s) j)
-              → take (h .bodies) (set (set bodies (b .body1) b₁) (b .body2) b₂) ≡ take (h .bodies) (after (warmStartNext card h s) (loaded card h s) (j + 1))
+              → take (h .bodies) (set (set bodies p₁ (pair .body1)) p₂ (pair .body2)) ≡ take (h .bodies) (after (warmStartNext card h s) (loaded card h s) (j + 1))
           warm-turn el e inv =
               after-alike (warmStartNext card h s) (loaded card h s) (λ l. take (h .bodies) l) (λ u. warm-alike bodies u) inv
-              (put-both pair e₁ e₂ ∙ ap (λ p. putPair card h s j p bodies) (warm-is el e))
+              (put-both pair e₁ e₂ ∙ ap (λ p. take (h .bodies) (putPair card h s j p bodies)) (warm-is el e))
 
         module _ {dt : Float} (ed : dt ≡ dtOf h) (totals : List JointTotals) (R : Running card h s j bodies totals) {r : JointResult}
             (er : r ≡ solvedWith (getD held j d) r₁ r₂ pairOf (at (b .body1) .inertia) (at (b .body2) .inertia) dt) where
@@ -435,19 +461,18 @@ module _ (card : List ℕ) (h : Header) (s : List Float) {table : List TickBody}
               (ap (λ (σ : Solved). σ .stopped) (next card h s j ∙ next-stopped card h s j (before card h s j) (R .going) (sym finite-is ∙ not-yes (r .finite) ef)))
 
           -- the joints so far, one more
-          pub solve-more : not (r .finite) ≡ false → length totals ≡ maxJoints → {b₁ b₂ : SolverBody}
-              → b₁ ≡ moved (at (b .body1) .index) (getD bodies (b .body1) unreadBody) (r .bodies .body1)
-              → b₂ ≡ moved (at (b .body2) .index) (getD (set bodies (b .body1) b₁) (b .body2) unreadBody) (r .bodies .body2)
-              → Running card h s (j + 1) (set (set bodies (b .body1) b₁) (b .body2) b₂) (set totals j (r .totals))
+          pub solve-more : not (r .finite) ≡ false → length totals ≡ maxJoints → {p₁ p₂ : ℕ}
+              → p₁ ≡ placeOf (at (b .body1) .index) (b .body1) → p₂ ≡ placeOf (at (b .body2) .index) (b .body2)
+              → Running card h s (j + 1) (set (set bodies p₁ (r .bodies .body1)) p₂ (r .bodies .body2)) (set totals j (r .totals))
           unfolding resultOf
-          solve-more ef lt {b₁} {b₂} e₁ e₂ =
+          solve-more ef lt e₁ e₂ =
               let σ = before card h s j in
               let n = next card h s j ∙ next-solved card h s j σ (R .going) (sym finite-is ∙ not-no (r .finite) ef) in
               let short : j < maxJoints = omega (arith, k, S .few-joints) in
               record {
                 going = ap (λ (σ : Solved). σ .stopped) n;
                 bodies-as =
-                    ap (λ l. take (h .bodies) l) (put-both (r .bodies) e₁ e₂)
+                    put-both (r .bodies) e₁ e₂
                     ∙ put-pair-alike (r .bodies) bodies (σ .bodies) (R .bodies-as)
                     ∙ ap (λ (r : JointResult). take (h .bodies) (putPair card h s j (r .bodies) (σ .bodies))) solved-is
                     ∙ ap (λ (σ : Solved). take (h .bodies) (σ .bodies)) (sym n);

@@ -22,7 +22,7 @@ use Rattle.tick.specs.Joint.{warmValue}
 use Rattle.tick.specs.Parts.{restingBody, resultOf}
 use Rattle.tick.specs.declared.body.BodyState.{BodyState}
 use Rattle.tick.specs.declared.joint.JointResult.{JointResult}
-use Rattle.card.specs.Layout.{bodyNumbers}
+use Rattle.card.specs.Layout.{maxBodies, bodyNumbers}
 use Rattle.card_records.specs.Decode.{inertiaAt, centerOfMassAt}
 use Rattle.card_records.specs.State.{Answered, answered}
 use Rattle.table.specs.Loop.{after}
@@ -47,6 +47,10 @@ rigidIn s i center = record { position = bodyStateAt s i .position; rotation = b
 -- an anchored body stays as it is
 unfoldable pub moved : SolverBodyIndex → SolverBody → SolverBody → SolverBody
 moved k old new = if isValid k then new else old
+
+-- where a joint's body i is put: an anchored one behind the card's bodies
+unfoldable pub placeOf : SolverBodyIndex → ℕ → ℕ
+placeOf k i = if isValid k then i else maxBodies
 
 unfoldable pub integratedOr : TickBody → SolverBody → Float → Float → SolverBody
 integratedOr t b g dt = moved (t .index) b (integrated b (t .inertia) g dt)

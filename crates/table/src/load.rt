@@ -3,9 +3,12 @@ ghost use mathlib.Core.Path.{_≡_};
 ghost use Prim.Native.Nat.{_+_, _*_, _≤_, _<_};
 ghost use lib.ListN.{length};
 ghost use Rattle.card.specs.Layout.{maxBodies, bodyBytes, bodyPlace, bodyNumbers, jointNumbers, totalsPlace};
+ghost use Rattle.solver_body.specs.Body.{dummyBody};
+ghost use Rattle.tick.specs.Body.{solverBodyOf};
 ghost use Rattle.table.specs.Tick.{vec3In, quatIn, bodyStateAt, totalsAt};
-ghost use Rattle.table.specs.Parts.{rigidIn, indexOf, moved, cardBodyAt, integratedOr};
+ghost use Rattle.table.specs.Parts.{rigidIn, indexOf, moved, placeOf, cardBodyAt, integratedOr};
 use card::layout::BODY_NUMBERS;
+use card::layout::MAX_BODIES;
 use card::layout::totals_place;
 use card::records::body_bits;
 use card_records::body::center_of_mass_at;
@@ -102,11 +105,22 @@ fn index_of(anchored: bool, i: usize) -> SolverBodyIndex
     SolverBodyIndex(i as u32)
 }
 
-// A body among the solver's bodies: an anchored one stays as it is.
-pub fn moved(index: SolverBodyIndex, old: SolverBody, new: SolverBody) -> SolverBody
-    ensures { λ r. ⌜ r ≡ moved index old new ⌝ }
+// A body among the solver's bodies, before the tick moves it.
+pub fn loaded_or(index: SolverBodyIndex, at: BodyState) -> SolverBody
+    ensures { λ r. ⌜ r ≡ moved index dummyBody (solverBodyOf at) ⌝ }
 {
-    if index.is_valid() { new } else { old }
+    if index.is_valid() {
+        return at.solver_body();
+    }
+    SolverBody::DUMMY
+}
+
+// Where body i goes that a joint has moved: an anchored one behind all, where nothing reads it, so that the dummy stays as it is. A place takes no branch, and
+// a body is copied once.
+pub fn place_of(index: SolverBodyIndex, i: usize) -> usize
+    ensures { λ r. ⌜ r ≡ placeOf index i ⌝ }
+{
+    if index.is_valid() { i } else { MAX_BODIES }
 }
 
 pub fn card_body_at(card: &[u8], i: usize) -> TickBody

@@ -9,7 +9,8 @@ use crate::load::TickBody;
 use crate::load::body_state_at;
 use crate::load::card_body_at;
 use crate::load::integrated_or;
-use crate::load::moved;
+use crate::load::loaded_or;
+use crate::load::place_of;
 use crate::load::rigid_in;
 use crate::load::totals_at;
 use crate::solve::NO_JOINT;
@@ -73,6 +74,9 @@ const CLEAR_STATE: BodyState = BodyState {
     angular_velocity: Vec3::ZERO,
 };
 
+// The solver's bodies: the card's, and behind them what a joint makes of an anchored body.
+const PLACES: usize = MAX_BODIES + 1;
+
 // Ticks in a row of a card that no check refuses, up to the first that is refused. All loops over arrays are here: an array that is passed is copied.
 fn run_checked(card: &[u8], state: &mut [f32], ticks: u32) -> Answer
     requires { ⌜ checkOf (now card) ≡ 0 ⌝ }
@@ -97,7 +101,7 @@ fn run_checked(card: &[u8], state: &mut [f32], ticks: u32) -> Answer
         card_joints[j] = joint;
         j += 1;
     }
-    let mut bodies = [CLEAR_BODY; MAX_BODIES];
+    let mut bodies = [CLEAR_BODY; PLACES];
     let mut totals = [JointTotals::ZERO; MAX_JOINTS];
     let mut new = [CLEAR_STATE; MAX_BODIES];
     let mut done = 0;
@@ -111,7 +115,7 @@ fn run_checked(card: &[u8], state: &mut [f32], ticks: u32) -> Answer
         while i < count {
             let t = card_bodies[i];
             let at = body_state_at(state, i);
-            let b = moved(t.index, SolverBody::DUMMY, at.solver_body());
+            let b = loaded_or(t.index, at);
             bodies[i] = b;
             i += 1;
         }
@@ -147,10 +151,12 @@ fn run_checked(card: &[u8], state: &mut [f32], ticks: u32) -> Answer
                 h.warm_coefficient,
                 dt,
             );
-            let b1 = moved(t1.index, bodies[first], warm.body1);
-            bodies[first] = b1;
-            let b2 = moved(t2.index, bodies[second], warm.body2);
-            bodies[second] = b2;
+            let place1 = place_of(t1.index, first);
+            let b1 = warm.body1;
+            bodies[place1] = b1;
+            let place2 = place_of(t2.index, second);
+            let b2 = warm.body2;
+            bodies[place2] = b2;
             j += 1;
         }
         // Gravity, the locks, and the deltas of the velocities.
@@ -180,10 +186,12 @@ fn run_checked(card: &[u8], state: &mut [f32], ticks: u32) -> Answer
             if !solved.finite {
                 return Answer::Stopped;
             }
-            let b1 = moved(t1.index, bodies[first], solved.bodies.body1);
-            bodies[first] = b1;
-            let b2 = moved(t2.index, bodies[second], solved.bodies.body2);
-            bodies[second] = b2;
+            let place1 = place_of(t1.index, first);
+            let b1 = solved.bodies.body1;
+            bodies[place1] = b1;
+            let place2 = place_of(t2.index, second);
+            let b2 = solved.bodies.body2;
+            bodies[place2] = b2;
             let t = solved.totals;
             totals[j] = t;
             j += 1;

@@ -20,7 +20,7 @@ use Rattle.table.specs.Tick.{storeTotals, loaded, warmStartNext, warmSta
 use Rattle.table.specs.Run.{tickOf}
 use Rattle.table.specs.Parts.{cardBodyAt, ticksOf}
 use Rattle.table.proofs.Loops.{after-none, after-turn, after-done, fill, fill-length, filled}
-use Rattle.table.proofs.Turns.{unreadState, SoundCard, decodedJoint, Decoded, Ready, loadedBody, loaded-done, warm-done, integrate-done, load-turn, ends, warm-skip, warm-turn, integrate-turn, Running, running-none, running-done, solve-stop, solve-more}
+use Rattle.table.proofs.Turns.{places, place-in, unreadState, SoundCard, decodedJoint, Decoded, Ready, loadedBody, loaded-done, warm-done, integrate-done, load-turn, ends, warm-skip, warm-turn, integrate-turn, Running, running-none, running-done, solve-stop, solve-more}
 use Rattle.table.proofs.Ends.{made, finish-is, write-is, totals-turn}
 use Rattle.table.proofs.Ticking.{accepted-stopped, accepted-fault, accepted-stored, all-stored, sound, length-passed, state-refused-tick, accepted-tick, ticks-none, ticks-more, ticks-stop, ticks-done}
 use Rattle.table.proofs.run.run_checked.Statement.{statement}
@@ -44,7 +44,7 @@ abbrev μ-loop2 : tie.MeasureT-loop2
 
 abbrev Inv-loop4 : tie.InvT-loop4
 Inv-loop4 card state ticks h count joints dt table i₀ held j bodies₀ totals new done i bodies =
-    (i ≤ count) × (bodies ≡ after (fill (loadedBody card state)) bodies₀ i) × (length bodies₀ ≡ maxBodies) × Ready card h state dt table held
+    (i ≤ count) × (bodies ≡ after (fill (loadedBody card state)) bodies₀ i) × (length bodies₀ ≡ places) × Ready card h state dt table held
 
 abbrev μ-loop4 : tie.MeasureT-loop4
 μ-loop4 card state ticks h count joints dt table i₀ held j bodies₀ totals new done i bodies = count - i
@@ -53,7 +53,7 @@ abbrev μ-loop4 : tie.MeasureT-loop4
 
 abbrev Inv-loop5 : tie.InvT-loop5
 Inv-loop5 card state ticks h count joints dt table i held j₀ bodies₀ totals new done j bodies =
-    (j ≤ joints) × (length bodies ≡ maxBodies) × (take (h .bodies) bodies ≡ take (h .bodies) (after (warmStartNext card h state) (loaded card h state) j))
+    (j ≤ joints) × (length bodies ≡ places) × (take (h .bodies) bodies ≡ take (h .bodies) (after (warmStartNext card h state) (loaded card h state) j))
     × Ready card h state dt table held
 
 abbrev μ-loop5 : tie.MeasureT-loop5
@@ -63,7 +63,7 @@ abbrev μ-loop5 : tie.MeasureT-loop5
 
 abbrev Inv-loop6 : tie.InvT-loop6
 Inv-loop6 card state ticks h count joints dt table i₀ held j bodies₀ totals new done i bodies =
-    (i ≤ count) × (length bodies ≡ maxBodies) × (take (h .bodies) bodies ≡ take (h .bodies) (after (integrateNext card h state) (warmStarted card h state) i))
+    (i ≤ count) × (length bodies ≡ places) × (take (h .bodies) bodies ≡ take (h .bodies) (after (integrateNext card h state) (warmStarted card h state) i))
     × Ready card h state dt table held
 
 abbrev μ-loop6 : tie.MeasureT-loop6
@@ -73,8 +73,8 @@ abbrev μ-loop6 : tie.MeasureT-loop6
 
 abbrev Inv-loop7 : tie.InvT-loop7
 Inv-loop7 card state ticks h count joints dt table i held j₀ bodies₀ totals₀ new done pre-solve j bodies totals =
-    (j ≤ joints) × (length bodies ≡ maxBodies) × (length totals ≡ maxJoints) × Running card h state j bodies totals × Ready card h state dt table held
-    × (take (h .bodies) pre-solve ≡ take (h .bodies) (preSolve card h state)) × (length pre-solve ≡ maxBodies)
+    (j ≤ joints) × (length bodies ≡ places) × (length totals ≡ maxJoints) × Running card h state j bodies totals × Ready card h state dt table held
+    × (take (h .bodies) pre-solve ≡ take (h .bodies) (preSolve card h state)) × (length pre-solve ≡ places)
 
 abbrev μ-loop7 : tie.MeasureT-loop7
 μ-loop7 card state ticks h count joints dt table i held j₀ bodies₀ totals₀ new done pre-solve j bodies totals = joints - j
@@ -84,8 +84,8 @@ abbrev μ-loop7 : tie.MeasureT-loop7
 abbrev Inv-loop8 : tie.InvT-loop8
 Inv-loop8 card state ticks h count joints dt table i₀ held j bodies totals new₀ done pre-solve i new =
     (i ≤ count) × (anyTo (λ m. bodyFault (made card h state m)) i ≡ false) × (new ≡ after (fill (made card h state)) new₀ i) × (length new₀ ≡ maxBodies)
-    × (length bodies ≡ maxBodies) × (length totals ≡ maxJoints) × Running card h state (h .joints) bodies totals × Ready card h state dt table held
-    × (take (h .bodies) pre-solve ≡ take (h .bodies) (preSolve card h state)) × (length pre-solve ≡ maxBodies)
+    × (length bodies ≡ places) × (length totals ≡ maxJoints) × Running card h state (h .joints) bodies totals × Ready card h state dt table held
+    × (take (h .bodies) pre-solve ≡ take (h .bodies) (preSolve card h state)) × (length pre-solve ≡ places)
 
 abbrev μ-loop8 : tie.MeasureT-loop8
 μ-loop8 card state ticks h count joints dt table i₀ held j bodies totals new₀ done pre-solve i new = count - i
@@ -115,7 +115,7 @@ abbrev μ-loop10 : tie.MeasureT-loop10
 abbrev Inv-loop3 : tie.InvT-loop3
 Inv-loop3 card state₀ ticks h count joints dt table i₀ held j₀ bodies₀ totals₀ new₀ done₀ state i j bodies totals new done =
     (done ≤ ticks) × (length state ≡ length state₀) × (answered 0 state ≡ ticksOf card state₀ done) × (checkOf card ≡ 0) × (h ≡ headerAt card)
-    × Decoded card h table held × (dt ≡ dtOf h) × (length bodies ≡ maxBodies) × (length totals ≡ maxJoints) × (length new ≡ maxBodies)
+    × Decoded card h table held × (dt ≡ dtOf h) × (length bodies ≡ places) × (length totals ≡ maxJoints) × (length new ≡ maxBodies)
     × (ticks < 4294967296)
 
 abbrev μ-loop3 : tie.MeasureT-loop3
@@ -207,9 +207,9 @@ inside4 c = omega (arith, c .loop4-test .taken, c .before .loop4 .inv .3 .decode
 
 loop4-again : tie.Need-loop4-again Inv-loop μ-loop Inv-loop2 μ-loop2 Inv-loop4 μ-loop4 Inv-loop5 μ-loop5 Inv-loop6 μ-loop6 Inv-loop7 μ-loop7 Inv-loop8 μ-loop8 Inv-loop9 μ-loop9 Inv-loop10 μ-loop10 Inv-loop3 μ-loop3
 loop4-again c =
-    let k = c .before .before .before .before .before in
+    let k = c .before .before .before .before in
     let i = k .before .loop4 .inv in
-    let b = load-turn _ _ _ (i .3 .decoded) _ (k .loop4-test .taken) (c .before .before .body-state-at .ensures) (c .before .solver-body .ensures) (c .moved .ensures) in
+    let b = load-turn _ _ _ (i .3 .decoded) _ (k .loop4-test .taken) (c .before .body-state-at .ensures) (c .loaded-or .ensures) in
     (omega (arith, i .0, k .loop4-test .taken), after-turn _ _ (i .1) (rw b), i .2, i .3)
 
 loop5-holds : tie.Need-loop5-holds Inv-loop μ-loop Inv-loop2 μ-loop2 Inv-loop4 μ-loop4 Inv-loop5 μ-loop5 Inv-loop6 μ-loop6 Inv-loop7 μ-loop7 Inv-loop8 μ-loop8 Inv-loop9 μ-loop9 Inv-loop10 μ-loop10 Inv-loop3 μ-loop3
@@ -224,6 +224,12 @@ inside5 c = omega (arith, c .loop5-test .taken, c .before .loop5 .inv .3 .decode
 
 places5 : (c : tie.After-joint-bits Inv-loop μ-loop Inv-loop2 μ-loop2 Inv-loop4 μ-loop4 Inv-loop5 μ-loop5 Inv-loop6 μ-loop6 Inv-loop7 μ-loop7 Inv-loop8 μ-loop8 Inv-loop9 μ-loop9 Inv-loop10 μ-loop10 Inv-loop3 μ-loop3) → let b = c .joint-bits .result in let n = c .before .before .before .before .before .before .before .before .before .before .before .before .before .before .before .before .header-at .result .bodies in (b .body1 < n) × (b .body2 < n) × (n ≤ maxBodies)
 places5 c = ends _ _ (c .before .before .loop5 .inv .3 .decoded .sound) _ (c .before .loop5-test .taken) (c .joint-bits .ensures)
+
+placed5 : (c : tie.After-b1 Inv-loop μ-loop Inv-loop2 μ-loop2 Inv-loop4 μ-loop4 Inv-loop5 μ-loop5 Inv-loop6 μ-loop6 Inv-loop7 μ-loop7 Inv-loop8 μ-loop8 Inv-loop9 μ-loop9 Inv-loop10 μ-loop10 Inv-loop3 μ-loop3) → c .before .place-of .result < places
+placed5 c = rw (c .before .place-of .ensures) (place-in _ _ (omega (arith, places5 (c .before .before .before .before .before .before .before .before .before .before .before .before .before .before .before .before))))
+
+placed5-2 : (c : tie.After-b2 Inv-loop μ-loop Inv-loop2 μ-loop2 Inv-loop4 μ-loop4 Inv-loop5 μ-loop5 Inv-loop6 μ-loop6 Inv-loop7 μ-loop7 Inv-loop8 μ-loop8 Inv-loop9 μ-loop9 Inv-loop10 μ-loop10 Inv-loop3 μ-loop3) → c .before .place-of2 .result < places
+placed5-2 c = rw (c .before .place-of2 .ensures) (place-in _ _ (omega (arith, places5 (c .before .before .before .before .before .before .before .before .before .before .before .before .before .before .before .before .before .before))))
 
 loop5-again : tie.Need-loop5-again Inv-loop μ-loop Inv-loop2 μ-loop2 Inv-loop4 μ-loop4 Inv-loop5 μ-loop5 Inv-loop6 μ-loop6 Inv-loop7 μ-loop7 Inv-loop8 μ-loop8 Inv-loop9 μ-loop9 Inv-loop10 μ-loop10 Inv-loop3 μ-loop3
 loop5-again c =
@@ -240,7 +246,7 @@ loop5-again-2 c =
       omega (arith, i .0, k .loop5-test .taken),
       simp length-set (i .1),
       warm-turn _ _ _ (i .3 .decoded) _ (k .loop5-test .taken) _ (i .1) (b .joint-bits .ensures) _ (c .before .before .before .before .before .before .before .before .before .before .before .before .rigid-in .ensures) (c .before .before .before .before .before .before .before .before .before .before .rigid-in2 .ensures)
-          (c .before .before .moved2 .ensures) (c .moved3 .ensures) (i .3 .step) (c .before .before .before .before .before .totals-at .ensures) (c .before .before .before .before .warm-start-joint .ensures) (i .2),
+          (c .before .before .before .place-of .ensures) (c .before .place-of2 .ensures) (i .3 .step) (c .before .before .before .before .before .totals-at .ensures) (c .before .before .before .before .warm-start-joint .ensures) (i .2),
       i .3,
     )
 
@@ -288,6 +294,12 @@ returns-2 c =
     (i .4 .step) _ (i .3) (c .before .before .solve-joint .ensures) (c .if3 .taken)) in
     ticks-stop _ _ _ (o .2) (stopped ∙ ticked e) (turn e .loop3-test .taken) (λ z. omega (arith, z))
 
+placed7 : (c : tie.After-b12 Inv-loop μ-loop Inv-loop2 μ-loop2 Inv-loop4 μ-loop4 Inv-loop5 μ-loop5 Inv-loop6 μ-loop6 Inv-loop7 μ-loop7 Inv-loop8 μ-loop8 Inv-loop9 μ-loop9 Inv-loop10 μ-loop10 Inv-loop3 μ-loop3) → c .before .place-of3 .result < places
+placed7 c = rw (c .before .place-of3 .ensures) (place-in _ _ (omega (arith, places7 (c .before .before .before .before .before .before .before .before .before .before .before .before .before .before))))
+
+placed7-2 : (c : tie.After-b22 Inv-loop μ-loop Inv-loop2 μ-loop2 Inv-loop4 μ-loop4 Inv-loop5 μ-loop5 Inv-loop6 μ-loop6 Inv-loop7 μ-loop7 Inv-loop8 μ-loop8 Inv-loop9 μ-loop9 Inv-loop10 μ-loop10 Inv-loop3 μ-loop3) → c .before .place-of4 .result < places
+placed7-2 c = rw (c .before .place-of4 .ensures) (place-in _ _ (omega (arith, places7 (c .before .before .before .before .before .before .before .before .before .before .before .before .before .before .before .before))))
+
 loop7-again : tie.Need-loop7-again Inv-loop μ-loop Inv-loop2 μ-loop2 Inv-loop4 μ-loop4 Inv-loop5 μ-loop5 Inv-loop6 μ-loop6 Inv-loop7 μ-loop7 Inv-loop8 μ-loop8 Inv-loop9 μ-loop9 Inv-loop10 μ-loop10 Inv-loop3 μ-loop3
 loop7-again c =
     let b = c .before .before .before .before .before .before .before .before .before .before .before .before .before .before .before .before .before in
@@ -297,7 +309,7 @@ loop7-again c =
       simp length-set (i .1),
       simp length-set (i .2),
       solve-more _ _ _ (i .4 .decoded) _ (k .loop7-test .taken) _ (i .1) (b .joint-bits2 .ensures) _ (c .before .before .before .before .before .before .before .before .before .before .before .before .before .rigid-in3 .ensures) (c .before .before .before .before .before .before .before .before .before .before .before .rigid-in4 .ensures)
-          (i .4 .step) _ (i .3) (c .before .before .before .before .before .before .before .solve-joint .ensures) (c .before .before .before .before .before .if3 .left) (i .2) (c .before .before .before .moved4 .ensures) (c .before .moved5 .ensures),
+          (i .4 .step) _ (i .3) (c .before .before .before .before .before .before .before .solve-joint .ensures) (c .before .before .before .before .before .if3 .left) (i .2) (c .before .before .before .before .place-of3 .ensures) (c .before .before .place-of4 .ensures),
       i .4,
       i .5,
       i .6,
@@ -428,10 +440,9 @@ run-checked-spec =
     (λ c. omega (arith, c .before .before .loop2-test .taken)) loop2-again loop3-holds
     (λ c κs. let S = c .before .before .loop3 .inv .5 .sound in (S .few-bodies, S .few-joints)) (λ _ _. tt)
     (λ c. c .before .before .before .before .before .loop3 .inv .1) returns loop4-holds (λ c. omega (arith, inside4 (c))) (λ c. omega (arith, inside4 (c)))
-    (λ c κs. omega (arith, c .before .before .loop4-test .taken, c .before .before .before .loop4 .inv .3 .whole)) (λ _ _. tt) (λ _ _. tt)
-    (λ c. omega (arith, inside4 (c .before .before .before .before .before))) (λ c. omega (arith, inside4 (c .before .before .before .before .before)))
-    (λ c. omega (arith, inside4 (c .before .before .before .before .before)))
-    (λ c. omega (arith, c .before .before .before .before .before .loop4-test .taken)) loop4-again loop5-holds
+    (λ c κs. omega (arith, c .before .before .loop4-test .taken, c .before .before .before .loop4 .inv .3 .whole)) (λ _ _. tt)
+    (λ c. omega (arith, inside4 (c .before .before .before .before))) (λ c. omega (arith, inside4 (c .before .before .before .before)))
+    (λ c. omega (arith, inside4 (c .before .before .before .before))) (λ c. omega (arith, c .before .before .before .before .loop4-test .taken)) loop4-again loop5-holds
     (λ c κs. omega (arith, c .loop5-test .taken, c .before .loop5 .inv .3 .decoded .sound .whole))
     (λ c. omega (arith, inside5 (c .before .before .before))) (λ c. omega (arith, c .before .before .before .loop5-test .taken)) loop5-again
     (λ c. omega (arith, places5 (c .before .before))) (λ c. omega (arith, places5 (c .before .before)))
@@ -445,17 +456,8 @@ run-checked-spec =
     (λ c. omega (arith, inside5 (c .before .before .before .before .before .before .before .before .before .before .before)))
     (λ c. omega (arith, inside5 (c .before .before .before .before .before .before .before .before .before .before .before)))
     (λ c κs. omega (arith, c .before .before .before .before .before .before .before .before .before .before .before .before .before .loop5-test .taken, c .before .before .before .before .before .before .before .before .before .before .before .before .before .before .loop5 .inv .3 .whole))
-    (λ _ _. tt)
-    (λ c. omega (arith, places5 (c .before .before .before .before .before .before .before .before .before .before .before .before .before .before)))
-    (λ c. omega (arith, places5 (c .before .before .before .before .before .before .before .before .before .before .before .before .before .before)))
-    (λ _ _. tt)
-    (λ c. omega (arith, places5 (c .before .before .before .before .before .before .before .before .before .before .before .before .before .before .before .before)))
-    (λ c. omega (arith, places5 (c .before .before .before .before .before .before .before .before .before .before .before .before .before .before .before .before)))
-    (λ c. omega (arith, places5 (c .before .before .before .before .before .before .before .before .before .before .before .before .before .before .before .before)))
-    (λ c. omega (arith, places5 (c .before .before .before .before .before .before .before .before .before .before .before .before .before .before .before .before)))
-    (λ _ _. tt)
-    (λ c. omega (arith, places5 (c .before .before .before .before .before .before .before .before .before .before .before .before .before .before .before .before .before .before)))
-    (λ c. omega (arith, places5 (c .before .before .before .before .before .before .before .before .before .before .before .before .before .before .before .before .before .before)))
+    (λ _ _. tt) (λ _ _. tt) (λ c. omega (arith, placed5 c)) (λ c. omega (arith, placed5 c)) (λ _ _. tt) (λ c. omega (arith, placed5-2 c))
+    (λ c. omega (arith, placed5-2 c))
     (λ c. omega (arith, inside5 (c .before .before .before .before .before .before .before .before .before .before .before .before .before .before .before .before .before .before .before)))
     (λ c. omega (arith, c .before .before .before .before .before .before .before .before .before .before .before .before .before .before .before .before .before .before .before .loop5-test .taken))
     loop5-again-2 loop6-holds (λ c. omega (arith, inside6 (c))) (λ c. omega (arith, inside6 (c))) (λ c. omega (arith, inside6 (c .before)))
@@ -473,15 +475,8 @@ run-checked-spec =
     (λ c. omega (arith, inside7 (c .before .before .before .before .before .before .before .before .before)))
     (λ c. omega (arith, inside7 (c .before .before .before .before .before .before .before .before .before))) (λ _ _. tt)
     (λ c. turn (c .before .before .before .before .before .before .before .before .before .before .before .before .before .before .before .before .before .before .before .before .before) .before .loop3 .inv .1)
-    returns-2 (λ c. omega (arith, places7 (c .before .before .before .before .before .before .before .before .before .before .before .before)))
-    (λ c. omega (arith, places7 (c .before .before .before .before .before .before .before .before .before .before .before .before))) (λ _ _. tt)
-    (λ c. omega (arith, places7 (c .before .before .before .before .before .before .before .before .before .before .before .before .before .before)))
-    (λ c. omega (arith, places7 (c .before .before .before .before .before .before .before .before .before .before .before .before .before .before)))
-    (λ c. omega (arith, places7 (c .before .before .before .before .before .before .before .before .before .before .before .before .before .before)))
-    (λ c. omega (arith, places7 (c .before .before .before .before .before .before .before .before .before .before .before .before .before .before)))
-    (λ _ _. tt)
-    (λ c. omega (arith, places7 (c .before .before .before .before .before .before .before .before .before .before .before .before .before .before .before .before)))
-    (λ c. omega (arith, places7 (c .before .before .before .before .before .before .before .before .before .before .before .before .before .before .before .before)))
+    returns-2 (λ _ _. tt) (λ c. omega (arith, placed7 c)) (λ c. omega (arith, placed7 c)) (λ _ _. tt) (λ c. omega (arith, placed7-2 c))
+    (λ c. omega (arith, placed7-2 c))
     (λ c. omega (arith, inside7 (c .before .before .before .before .before .before .before .before .before .before .before .before .before .before .before .before .before .before)))
     (λ c. omega (arith, inside7 (c .before .before .before .before .before .before .before .before .before .before .before .before .before .before .before .before .before .before)))
     (λ c. omega (arith, inside7 (c .before .before .before .before .before .before .before .before .before .before .before .before .before .before .before .before .before .before)))

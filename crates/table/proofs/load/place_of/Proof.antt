@@ -1,9 +1,9 @@
-use Rattle.table.specs.Parts.{moved}
-use Rattle.table.proofs.load.moved.Statement.{statement}
-use Rattle.table.proofs.load.moved.Tie as tie
+use Rattle.table.specs.Parts.{placeOf}
+use Rattle.table.proofs.load.place_of.Statement.{statement}
+use Rattle.table.proofs.load.place_of.Tie as tie
 
 returns : tie.Need-returns
-unfolding moved
+unfolding placeOf
 returns c =
     let c1 = c .before in
     simp (
@@ -12,7 +12,7 @@ returns c =
     )
 
 returns-2 : tie.Need-returns-2
-unfolding moved
+unfolding placeOf
 returns-2 c =
     let c1 = c .before in
     simp (
@@ -20,5 +20,5 @@ returns-2 c =
       simp (c1 .is-valid .ensures) at (c .if1 .left),
     )
 
-pub moved-spec : {M : Type 1} → statement M
-moved-spec = tie.close (tie.spec (λ _ _. tt) returns returns-2)
+pub place-of-spec : {M : Type 1} → statement M
+place-of-spec = tie.close (tie.spec (λ _ _. tt) returns returns-2)
