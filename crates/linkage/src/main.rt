@@ -4,6 +4,7 @@ use card::layout::BODY_NUMBERS;
 use card::layout::JOINT_NUMBERS;
 use card::layout::MAX_BODIES;
 use card::layout::MAX_JOINTS;
+use card::layout::state_length;
 use card::records::Header;
 use card::records::header_at;
 use card_records::state::start;
@@ -128,7 +129,7 @@ fn run_accepted(card: &[u8], h: Header, ticks: u64)
     requires { ⌜ (h .bodies ≤ maxBodies) × (h .joints ≤ maxJoints) ⌝ }
 {
     let bodies = h.bodies;
-    let numbers = BODY_NUMBERS * bodies + JOINT_NUMBERS * h.joints;
+    let numbers = state_length(bodies, h.joints);
     let mut room = largest_state();
     start_and_run(card, &mut room[..numbers], bodies, ticks);
 }

@@ -6,8 +6,7 @@ ghost use lib.Seq.{sets};
 ghost use Rattle.card.specs.Layout.{bodyNumbers, jointNumbers, totalsPlace};
 ghost use Rattle.table.specs.Tick.{totalsNumbers};
 ghost use Rattle.table.specs.Parts.{finishedOr, storeMoving};
-use card::layout::BODY_NUMBERS;
-use card::layout::JOINT_NUMBERS;
+use card::layout::totals_place;
 use card_records::state::write_body;
 use card_records::state::write_vec3;
 use solver_body::RigidBody;
@@ -54,7 +53,7 @@ pub fn write_totals(state: &mut [f32], bodies: usize, j: usize, t: JointTotals)
     requires { ⌜ totalsPlace bodies j + jointNumbers ≤ length (now state) ⌝ }
     ensures { λ _. ⌜ now (state .exit) ≡ sets (now (state .entry)) (totalsPlace bodies j) (totalsNumbers t) ⌝ }
 {
-    let at = BODY_NUMBERS * bodies + JOINT_NUMBERS * j;
+    let at = totals_place(bodies, j);
     write_vec3(state, at, t.first);
     write_vec3(state, at + 3, t.second);
     write_vec3(state, at + 6, t.third);

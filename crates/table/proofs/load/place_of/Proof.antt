@@ -4,21 +4,11 @@ use Rattle.table.proofs.load.place_of.Tie as tie
 
 returns : tie.Need-returns
 unfolding placeOf
-returns c =
-    let c1 = c .before in
-    simp (
-      c1 .is-valid .ensures,
-      simp (c1 .is-valid .ensures) at (c .if1 .taken),
-    )
+returns c = simp (simp (c .before .is-valid .ensures) at (c .if1 .taken))
 
 returns-2 : tie.Need-returns-2
 unfolding placeOf
-returns-2 c =
-    let c1 = c .before in
-    simp (
-      c1 .is-valid .ensures,
-      simp (c1 .is-valid .ensures) at (c .if1 .left),
-    )
+returns-2 c = simp (simp (c .before .is-valid .ensures) at (c .if1 .left))
 
 pub place-of-spec : {M : Type 1} → statement M
 place-of-spec = tie.close (tie.spec (λ _ _. tt) returns returns-2)
