@@ -123,14 +123,16 @@ pub fn sin_cos(a: f32) -> SinCos
             };
         }
         // In 65,536ths of a step of π/2048: 8589934592 is 2^33, and 3373259426 is π·2^30 to the nearest.
-        let w = table_sin_cos(scaled(x) * 8589934592 / 3373259426);
+        let q = scaled(x) * 8589934592 / 3373259426;
+        // Two calls, so that the compiler keeps the table out of line and puts the small angles into each caller.
         if a < 0.0 {
+            let w = table_sin_cos(q);
             return SinCos {
                 sin: -w.sin,
                 cos: w.cos,
             };
         }
-        return w;
+        return table_sin_cos(q);
     }
     SinCos {
         sin: 0.0 / 0.0,
