@@ -8,8 +8,10 @@ use vector::Quat;
 use vector::SymmetricTensor;
 use vector::Vec3;
 ghost use mathlib.Core.Path.{_≡_};
+ghost use Rattle.vector.specs.Vector.{addOf, subOf};
+ghost use Rattle.vector.specs.Rotation.{turnOf};
 ghost use Rattle.solver_body.specs.Body.{effectiveInvMass};
-ghost use Rattle.xpbd.specs.Positional.{generalizedInverseMass, deltaRot, pushed, pulled, impulseApplied, weight, correctionImpulse, anchorArm, centerDifference, separationOf};
+ghost use Rattle.xpbd.specs.Positional.{generalizedInverseMass, deltaRot, pushed, pulled, impulseApplied, weight, correctionImpulse, anchorArm, separationOf};
 ghost use Rattle.xpbd.specs.Parts.{pair};
 
 pub fn compute_generalized_inverse_mass(
@@ -121,11 +123,17 @@ pub fn anchor_arm(body: RigidBody, local_anchor: Vec3) -> Vec3
         .mul_vec3(local_anchor.sub(body.center_of_mass))
 }
 
-pub fn center_difference(body1: RigidBody, body2: RigidBody) -> Vec3
-    ensures { λ v. ⌜ v ≡ centerDifference body1 body2 ⌝ }
+// From a body's origin to its centre of mass, in world axes.
+pub fn center_arm(body: RigidBody) -> Vec3
+    ensures { λ v. ⌜ v ≡ turnOf (body .rotation) (body .«center_of_mass») ⌝ }
 {
-    let center1 = body1.rotation.mul_vec3(body1.center_of_mass);
-    let center2 = body2.rotation.mul_vec3(body2.center_of_mass);
+    body.rotation.mul_vec3(body.center_of_mass)
+}
+
+// From the first centre of mass to the second, with both arms.
+pub fn center_difference(body1: RigidBody, body2: RigidBody, center1: Vec3, center2: Vec3) -> Vec3
+    ensures { λ v. ⌜ v ≡ addOf (subOf (body2 .position) (body1 .position)) (subOf center2 center1) ⌝ }
+{
     body2.position.sub(body1.position).add(center2.sub(center1))
 }
 

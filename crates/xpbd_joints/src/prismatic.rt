@@ -13,6 +13,7 @@ use vector::SymmetricTensor;
 use vector::Vec3;
 use xpbd::fixed_angle_constraint::FixedAngleConstraintShared;
 use xpbd::positional_constraint::anchor_arm;
+use xpbd::positional_constraint::center_arm;
 use xpbd::positional_constraint::center_difference;
 use xpbd::positional_constraint::correction_impulse;
 use xpbd::positional_constraint::positional_impulse;
@@ -61,7 +62,7 @@ pub fn prepare(
     );
     let world_r1 = anchor_arm(body1, joint.frame1.anchor);
     let world_r2 = anchor_arm(body2, joint.frame2.anchor);
-    let center_difference = center_difference(body1, body2);
+    let center_difference = center_difference(body1, body2, center_arm(body1), center_arm(body2));
     let free_axis1 = body1
         .rotation
         .mul_quat(joint.frame1.basis)
