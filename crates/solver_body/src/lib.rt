@@ -29,6 +29,17 @@ pub struct BodyPair {
     pub body2: SolverBody,
 }
 
+impl BodyPair {
+    // A copy, for a call that the compiler keeps out of line: a variable that is passed whole stays in memory, and what else is read of it comes from there.
+    pub fn copied(self) -> BodyPair
+        ensures { λ r. ⌜ r ≡ self ⌝ }
+    {
+        let body1 = self.body1;
+        let body2 = self.body2;
+        BodyPair { body1, body2 }
+    }
+}
+
 impl SolverBody {
     // An anchored body.
     pub const DUMMY: SolverBody = SolverBody {

@@ -333,7 +333,7 @@ fn constrain_positions(
         compliance,
         dt,
     );
-    let moved = positional_impulse(bodies, inertia1, inertia2, impulse, r1, r2);
+    let moved = positional_impulse(bodies.copied(), inertia1, inertia2, impulse, r1, r2);
     StageSolved {
         bodies: moved,
         total_lagrange: total_lagrange.add(impulse),
