@@ -9,6 +9,7 @@ use Rattle.scalar.specs.Arith.{if_then_else_, f0}
 use Rattle.vector.specs.Vector.{origin}
 use Rattle.vector.specs.declared.Vec3.{Vec3}
 use Rattle.vector.specs.declared.Quat.{Quat}
+use Rattle.joints.specs.Limit.{zeroLimit}
 use Rattle.joints.specs.declared.Joint.{Joint}
 use Rattle.joints.specs.declared.Joint.the-variants.{Distance}
 use Rattle.solver_body.specs.Body.{dummyBody}
@@ -67,7 +68,7 @@ abbrev pub storeTotals : ℕ → List JointTotals → ℕ → List Float → Lis
 storeTotals bodies totals j s = sets s (totalsPlace bodies j) (totalsNumbers (getD totals j noTotals))
 
 abbrev pub noJoint : Joint
-noJoint = Distance (record { body1 = 0; body2 = 0; anchor1 = origin; anchor2 = origin; limits = record { min = f0; max = f0 }; compliance = f0 })
+noJoint = Distance (record { body1 = 0; body2 = 0; anchor1 = origin; anchor2 = origin; limits = zeroLimit; compliance = f0 })
 
 -- a card that no check refuses has no unknown kind
 unfoldable pub knownJoint : CardJoint → Joint
