@@ -11,15 +11,14 @@ use Rattle.scalar.specs.Arith.{f0}
 use Rattle.card.specs.Layout.{bodyNumbers, jointNumbers}
 use Rattle.card.specs.declared.records.Header.{Header}
 use Rattle.card_records.specs.Decode.{bodyAt}
-use Rattle.card_records.specs.State.{bodyStart, startTo, startState}
+use Rattle.card_records.specs.State.{numbersOf, startTo, startState}
 use Rattle.card_records.proofs.Writes.{start-length}
 
 module _ (card : List ℕ) where
   abbrev numbers : ℕ → List Float
-  numbers i = bodyStart (bodyAt card i)
+  numbers i = numbersOf (bodyAt card i)
 
   numbers-length : (i : ℕ) → length (numbers i) ≡ bodyNumbers
-  unfolding bodyStart
   numbers-length i = refl
 
   -- body i stands behind the first n bodies, or among them
@@ -39,6 +38,6 @@ module _ (card : List ℕ) where
       by-place earlier (inr h) = earlier h
 
   module _ (h : Header) where
-    pub start-body : (i : ℕ) → i < h .bodies → take bodyNumbers (drop (bodyNumbers * i) (startState card h)) ≡ bodyStart (bodyAt card i)
+    pub start-body : (i : ℕ) → i < h .bodies → take bodyNumbers (drop (bodyNumbers * i) (startState card h)) ≡ numbersOf (bodyAt card i)
     unfolding startState
     start-body i l = in-bodies (h .bodies) i l (replicate (jointNumbers * h .joints) f0)

@@ -8,12 +8,10 @@ use mathlib.Core.List.{List, [], _∷_, _++_}
 use lib.ListN.{length, take, drop, set, replicate, length-append, length-drop, length-replicate, replicate-append-replicate}
 use lib.Seq.{sets, sets-eq, take-at, drop-at, drop-append-add, drop-drop, take-suc-set, take-all}
 use lib.Ieee.{Float}
-use Rattle.vector.specs.declared.Vec3.{Vec3}
-use Rattle.vector.specs.declared.Quat.{Quat}
+use Rattle.solver_body.specs.declared.BodyState.{BodyState}
 use Rattle.card.specs.Layout.{bodyNumbers}
 use Rattle.card_records.specs.Decode.{bodyAt}
-use Rattle.card_records.specs.State.{numbers3, numbers4, numbersOf, bodyStart, startTo}
-use Rattle.card_records.specs.declared.body.CardBody.{CardBody}
+use Rattle.card_records.specs.State.{numbers3, numbers4, numbersOf, startTo}
 
 module _ {A : Type 0} where
   pub sets-append : (l : List A) (i : ℕ) (xs ys : List A) → sets (sets l i xs) (i + length xs) ys ≡ sets l i (xs ++ ys)
@@ -52,34 +50,36 @@ pub four : (s : List Float) (at : ℕ) (x y z w : Float)
 four s at x y z w = let e : at + 3 ≡ suc (suc (suc at)) = omega arith in rw (three, e)
 
 -- the four parts of a body's numbers, one behind the other
-pub body-written : (p : Vec3) (q : Quat) (l a : Vec3) (s : List Float) (at : ℕ) {s₁ s₂ s₃ s₄ : List Float}
-    → s₁ ≡ sets s at (numbers3 p) → s₂ ≡ sets s₁ (at + 3) (numbers4 q) → s₃ ≡ sets s₂ (at + 7) (numbers3 l)
-    → s₄ ≡ sets s₃ (at + 10) (numbers3 a) → s₄ ≡ sets s at (numbersOf p q l a)
-body-written p q l a s at e₁ e₂ e₃ e₄ =
-    let f₂ = e₂ ∙ ap (λ (t : List Float). sets t (at + 3) (numbers4 q)) e₁ ∙ sets-append s at (numbers3 p) (numbers4 q) in
-    let f₃ = e₃ ∙ ap (λ (t : List Float). sets t (at + 7) (numbers3 l)) f₂ ∙ sets-append s at (numbers3 p ++ numbers4 q) (numbers3 l) in
-    e₄ ∙ ap (λ (t : List Float). sets t (at + 10) (numbers3 a)) f₃
-    ∙ sets-append s at (numbers3 p ++ numbers4 q ++ numbers3 l) (numbers3 a)
+pub body-written : (b : BodyState) (s : List Float) (at : ℕ) {s₁ s₂ s₃ s₄ : List Float}
+    → s₁ ≡ sets s at (numbers3 (b .position)) → s₂ ≡ sets s₁ (at + 3) (numbers4 (b .rotation)) → s₃ ≡ sets s₂ (at + 7) (numbers3 (b .«linear_velocity»))
+    → s₄ ≡ sets s₃ (at + 10) (numbers3 (b .«angular_velocity»)) → s₄ ≡ sets s at (numbersOf b)
+body-written b s at e₁ e₂ e₃ e₄ =
+    let p = numbers3 (b .position) in
+    let q = numbers4 (b .rotation) in
+    let l = numbers3 (b .«linear_velocity») in
+    let a = numbers3 (b .«angular_velocity») in
+    let f₂ = e₂ ∙ ap (λ (t : List Float). sets t (at + 3) q) e₁ ∙ sets-append s at p q in
+    let f₃ = e₃ ∙ ap (λ (t : List Float). sets t (at + 7) l) f₂ ∙ sets-append s at (p ++ q) l in
+    e₄ ∙ ap (λ (t : List Float). sets t (at + 10) a) f₃ ∙ sets-append s at (p ++ q ++ l) a
 
 module _ (card : List ℕ) where
   pub start-none : startTo card 0 ≡ []
   unfolding startTo
   start-none = refl
 
-  pub start-more : (i : ℕ) → startTo card (i + 1) ≡ startTo card i ++ bodyStart (bodyAt card i)
+  pub start-more : (i : ℕ) → startTo card (i + 1) ≡ startTo card i ++ numbersOf (bodyAt card i)
   unfolding startTo
   start-more i = rw add-one
 
   pub start-length : (i : ℕ) → length (startTo card i) ≡ bodyNumbers * i
-  unfolding startTo bodyStart
+  unfolding startTo
   start-length zero = refl
   start-length (suc i) = simp (length-append, start-length i) (omega arith)
 
   -- a turn of the loop: body i written behind those before it
-  pub next-body : (i : ℕ) (s : List Float) {t u : List Float} {b : CardBody} → bodyNumbers * i + bodyNumbers ≤ length s
-      → t ≡ startTo card i ++ drop (bodyNumbers * i) s → b ≡ bodyAt card i → u ≡ sets t (bodyNumbers * i) (bodyStart b)
+  pub next-body : (i : ℕ) (s : List Float) {t u : List Float} {b : BodyState} → bodyNumbers * i + bodyNumbers ≤ length s
+      → t ≡ startTo card i ++ drop (bodyNumbers * i) s → b ≡ bodyAt card i → u ≡ sets t (bodyNumbers * i) (numbersOf b)
       → u ≡ startTo card (i + 1) ++ drop (bodyNumbers * (i + 1)) s
-  unfolding bodyStart
   next-body i s h et eb eu =
       let e : bodyNumbers * (i + 1) ≡ bodyNumbers * i + bodyNumbers = omega arith in
-      rw (eu, et, eb, start-more, e) (next-piece (startTo card i) s (bodyStart (bodyAt card i)) (bodyNumbers * i) (start-length i) h)
+      rw (eu, et, eb, start-more, e) (next-piece (startTo card i) s (numbersOf (bodyAt card i)) (bodyNumbers * i) (start-length i) h)

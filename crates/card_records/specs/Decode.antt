@@ -26,13 +26,13 @@ use Rattle.joints.specs.declared.spherical.SphericalJoint.{SphericalJoint}
 use Rattle.joints.specs.declared.distance.DistanceJoint.{DistanceJoint}
 use Rattle.joints.specs.declared.Joint.the-variants.{Fixed, Revolute, Prismatic, Spherical, Distance}
 use Rattle.solver_body.specs.Body.{dummyInertia}
+use Rattle.solver_body.specs.declared.BodyState.{BodyState}
 use Rattle.solver_body.specs.declared.SolverBodyInertia.{SolverBodyInertia}
 use Rattle.card.specs.Layout.{bodyFloats, jointFloats, rotationFloat, centerOfMassFloat, linearVelocityFloat, angularVelocityFloat, invMassFloat, invInertiaFloat, anchor2Float, basis1Float, basis2Float, axisFloat, complianceFloat, limit1Float, limit2Float, motorFloat}
 use Rattle.card.specs.Bits.{flag, floatAt, vec3At, quatAt}
 use Rattle.card.specs.Records.{bodyBits, jointBits}
 use Rattle.card.specs.declared.records.BodyBits.{BodyBits}
 use Rattle.card.specs.declared.records.JointBits.{JointBits}
-use Rattle.card_records.specs.declared.body.CardBody.{CardBody}
 use Rattle.card_records.specs.declared.joint.CardJoint.{CardJoint}
 use Rattle.card_records.specs.declared.joint.CardJoint.the-variants.{Known, Unknown}
 
@@ -73,7 +73,7 @@ inertiaAt card i =
 unfoldable pub centerOfMassAt : List ℕ → ℕ → Vec3
 centerOfMassAt card i = vec3At card (bodyFloats i + 4 * centerOfMassFloat)
 
-unfoldable pub bodyAt : List ℕ → ℕ → CardBody
+unfoldable pub bodyAt : List ℕ → ℕ → BodyState
 bodyAt card i =
     record {
       position = vec3At card (bodyFloats i);

@@ -10,13 +10,13 @@ use Rattle.scalar.specs.Scalar.{outside}
 use Rattle.vector.specs.declared.Vec3.{Vec3}
 use Rattle.vector.specs.declared.Quat.{Quat}
 use Rattle.solver_body.specs.Body.{positionBound}
+use Rattle.solver_body.specs.declared.BodyState.{BodyState}
 use Rattle.card.specs.Layout.{bodyNumbers, jointNumbers, stateLength}
 use Rattle.card.specs.Loop.{anyTo}
 use Rattle.card.specs.Records.{headerAt}
 use Rattle.card.specs.Checks.{Refusal, refuse, firstOf, checkOf}
 use Rattle.card.specs.declared.records.Header.{Header}
 use Rattle.card_records.specs.Decode.{bodyAt}
-use Rattle.card_records.specs.declared.body.CardBody.{CardBody}
 
 abbrev pub numbers3 : Vec3 → List Float
 numbers3 v = v .x ∷ v .y ∷ v .z ∷ []
@@ -25,16 +25,13 @@ abbrev pub numbers4 : Quat → List Float
 numbers4 q = q .x ∷ q .y ∷ q .z ∷ q .w ∷ []
 
 -- a body's numbers: position, rotation, linear and angular velocity
-abbrev pub numbersOf : Vec3 → Quat → Vec3 → Vec3 → List Float
-numbersOf position rotation linear angular = numbers3 position ++ numbers4 rotation ++ numbers3 linear ++ numbers3 angular
-
-unfoldable pub bodyStart : CardBody → List Float
-bodyStart b = numbersOf (b .position) (b .rotation) (b .«linear_velocity») (b .«angular_velocity»)
+abbrev pub numbersOf : BodyState → List Float
+numbersOf b = numbers3 (b .position) ++ numbers4 (b .rotation) ++ numbers3 (b .«linear_velocity») ++ numbers3 (b .«angular_velocity»)
 
 -- the first n bodies, as the card has them
 unfoldable pub startTo : List ℕ → ℕ → List Float
 startTo card zero = []
-startTo card (suc n) = startTo card n ++ bodyStart (bodyAt card n)
+startTo card (suc n) = startTo card n ++ numbersOf (bodyAt card n)
 
 -- the card's numbers, and totals zero
 unfoldable pub startState : List ℕ → Header → List Float

@@ -16,18 +16,11 @@ use card::layout::ROTATION;
 use card::layout::body_floats;
 use card::records::BodyBits;
 use card::records::body_bits;
+use solver_body::BodyState;
 use solver_body::SolverBodyInertia;
 use vector::Quat;
 use vector::SymmetricTensor;
 use vector::Vec3;
-
-// A body of the card at the start.
-pub struct CardBody {
-    pub position: Vec3,
-    pub rotation: Quat,
-    pub linear_velocity: Vec3,
-    pub angular_velocity: Vec3,
-}
 
 fn tensor_at(card: &[u8], at: usize) -> SymmetricTensor
     requires { ⌜ at + 24 ≤ length (now card) ⌝ }
@@ -87,12 +80,12 @@ pub fn center_of_mass_at(card: &[u8], i: usize) -> Vec3
     vec3_at(card, body_floats(i) + 4 * CENTER_OF_MASS)
 }
 
-pub fn body_at(card: &[u8], i: usize) -> CardBody
+pub fn body_at(card: &[u8], i: usize) -> BodyState
     requires { ⌜ bodyPlace i + bodyBytes ≤ length (now card) ⌝ }
     ensures { λ r. ⌜ r ≡ bodyAt (now (card .entry)) i ⌝ }
 {
     let floats = body_floats(i);
-    CardBody {
+    BodyState {
         position: vec3_at(card, floats),
         rotation: quat_at(card, floats + 4 * ROTATION),
         linear_velocity: vec3_at(card, floats + 4 * LINEAR_VELOCITY),

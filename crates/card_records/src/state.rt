@@ -19,6 +19,7 @@ use card::records::Header;
 use card::records::header_at;
 use scalar::MAX;
 use scalar::outside;
+use solver_body::BodyState;
 use solver_body::POSITION_BOUND;
 use vector::Quat;
 use vector::Vec3;
@@ -43,22 +44,15 @@ fn write_quat(state: &mut [f32], at: usize, q: Quat)
 }
 
 // The 13 numbers of body i.
-pub fn write_body(
-    state: &mut [f32],
-    i: usize,
-    position: Vec3,
-    rotation: Quat,
-    linear: Vec3,
-    angular: Vec3,
-)
+pub fn write_body(state: &mut [f32], i: usize, b: BodyState)
     requires { ⌜ bodyNumbers * i + bodyNumbers ≤ length (now state) ⌝ }
-    ensures { λ _. ⌜ now (state .exit) ≡ sets (now (state .entry)) (bodyNumbers * i) (numbersOf position rotation linear angular) ⌝ }
+    ensures { λ _. ⌜ now (state .exit) ≡ sets (now (state .entry)) (bodyNumbers * i) (numbersOf b) ⌝ }
 {
     let at = BODY_NUMBERS * i;
-    write_vec3(state, at, position);
-    write_quat(state, at + 3, rotation);
-    write_vec3(state, at + 7, linear);
-    write_vec3(state, at + 10, angular);
+    write_vec3(state, at, b.position);
+    write_quat(state, at + 3, b.rotation);
+    write_vec3(state, at + 7, b.linear_velocity);
+    write_vec3(state, at + 10, b.angular_velocity);
 }
 
 fn clear(state: &mut [f32])
@@ -78,14 +72,7 @@ fn write_bodies(card: &[u8], bodies: usize, state: &mut [f32])
     let mut i = 0;
     while i < bodies {
         let b = body_at(card, i);
-        write_body(
-            state,
-            i,
-            b.position,
-            b.rotation,
-            b.linear_velocity,
-            b.angular_velocity,
-        );
+        write_body(state, i, b);
         i += 1;
     }
 }

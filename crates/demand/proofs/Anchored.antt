@@ -18,10 +18,10 @@ use Rattle.card.specs.Layout.{totalsPlace}
 use Rattle.card.specs.Loop.{anyTo}
 use Rattle.card.specs.Records.{headerAt, bodyBits}
 use Rattle.card.specs.Checks.{checkOf}
-use Rattle.card_records.specs.State.{lengthFault, startState, checkStateOf, Answered, answered, startAccepted, startOf}
+use Rattle.card_records.specs.State.{numbersOf, lengthFault, startState, checkStateOf, Answered, answered, startAccepted, startOf}
 use Rattle.card.specs.declared.records.Header.{Header}
 use Rattle.table.specs.Loop.{after}
-use Rattle.table.specs.Tick.{Solved, bodyStateNumbers, totalsNumbers, newBody, newFault, storeBody, storeTotals, stored, before, finished, tickAccepted}
+use Rattle.table.specs.Tick.{Solved, totalsNumbers, newBody, newFault, storeBody, storeTotals, stored, before, finished, tickAccepted}
 use Rattle.table.specs.Run.{tickOf, tickNext, runOf}
 use Rattle.demand.specs.Demand.{Call, start, tick, ticks, bytesOf, leaves, afterCalls, CardOrRefused, AnchoredKept}
 use Rattle.card_records.proofs.Starting.{start-refused}
@@ -71,9 +71,9 @@ module _ (card : List ℕ) (s : List Float) (i : ℕ) (h : i < headerAt card .bo
   body-kept σ k t e =
       go (bodyBits card k .anchored) (λ (n : T (not (bodyBits card k .anchored))) (q : k ≡ i). T-not (bodyBits card k .anchored) n (subst (λ (z : ℕ). T (bodyBits card z .anchored)) (sym q) a))
     where
-      go : (v : Bool) → (T (not v) → k ≡ i → ⊥) → Same (if v then t else sets t (13 * k) (bodyStateNumbers (newBody card H s σ k)))
+      go : (v : Bool) → (T (not v) → k ≡ i → ⊥) → Same (if v then t else sets t (13 * k) (numbersOf (newBody card H s σ k)))
       go true n = e
-      go false n = sets-out (bodyStateNumbers (newBody card H s σ k)) t 13 (13 * i) (13 * k) (apart i k (n tt)) ∙ e
+      go false n = sets-out (numbersOf (newBody card H s σ k)) t 13 (13 * i) (13 * k) (apart i k (n tt)) ∙ e
 
   totals-kept : (σ : Solved) (j : ℕ) (t : List Float) → Same t → Same (storeTotals (H .bodies) (σ .totals) j t)
   totals-kept σ j t e = sets-out (totalsNumbers (getD (σ .totals) j noTotals)) t 13 (13 * i) (totalsPlace (H .bodies) j) (inr (omega arith)) ∙ e

@@ -7,7 +7,8 @@ use lib.ListN.{getD, set, replicate}
 use lib.Ieee.{Float, binary32}
 use lib.Ieee.Fits.{mul-fits}
 use Rattle.vector.specs.Vector.{scaleOf}
-use Rattle.solver_body.specs.Body.{dummyBody}
+use Rattle.solver_body.specs.Body.{solverBodyOf, dummyBody}
+use Rattle.solver_body.specs.declared.BodyState.{BodyState}
 use Rattle.solver_body.specs.declared.SolverBody.{SolverBody}
 use Rattle.solver_body.specs.declared.SolverBodyInertia.{SolverBodyInertia}
 use Rattle.solver_body.specs.declared.BodyPair.{BodyPair}
@@ -28,9 +29,8 @@ use Rattle.card.specs.Layout.{maxBodies, maxJoints}
 use Rattle.card.specs.Records.{bodyBits, dtOf}
 use Rattle.card_records.specs.Decode.{inertiaAt}
 use Rattle.card.specs.declared.records.Header.{Header}
-use Rattle.tick.specs.Body.{solverBodyOf, integrated}
+use Rattle.tick.specs.Body.{integrated}
 use Rattle.tick.specs.Joint.{jointFinite}
-use Rattle.tick.specs.declared.body.BodyState.{BodyState}
 use Rattle.table.specs.Tick.{Solved, bodyStateAt, firstBody, secondBody, inertiasAt, preparedAt, putMoving, pairAt, putPair, loadNext, warmStartNext, integrateNext, loaded, warmStarted, preSolve, solvedAt, putSolved, stop, solveNext, before}
 use Rattle.table.proofs.Loops.{after-all}
 

@@ -14,7 +14,7 @@ use Rattle.card.specs.Layout.{bodyNumbers}
 use Rattle.card.specs.Records.{headerAt, bodyBits}
 use Rattle.card.specs.Checks.{checkOf}
 use Rattle.card_records.specs.Decode.{bodyAt}
-use Rattle.card_records.specs.State.{bodyStart, startState, startOf}
+use Rattle.card_records.specs.State.{numbersOf, startState, startOf}
 use Rattle.table.specs.Run as table
 use Rattle.demand.specs.Trace.{solveAt, settingAt, stepsAt, startAt, eventsAt}
 
@@ -58,7 +58,7 @@ CardOrRefused card bytes = (bytes ≡ card) ⊎ (checkOf bytes ≡ 0 → ⊥)
 -- each anchored body's 13 numbers in the state are the card's
 abbrev pub AnchoredKept : List ℕ → List Float → Type 0
 AnchoredKept card s =
-    (i : ℕ) → i < headerAt card .bodies → T (bodyBits card i .anchored) → take bodyNumbers (drop (bodyNumbers * i) s) ≡ bodyStart (bodyAt card i)
+    (i : ℕ) → i < headerAt card .bodies → T (bodyBits card i .anchored) → take bodyNumbers (drop (bodyNumbers * i) s) ≡ numbersOf (bodyAt card i)
 
 -- ---- the demand
 

@@ -8,12 +8,23 @@ use Rattle.vector.specs.Rotation.{identity}
 use Rattle.vector.specs.Matrix.{zeroTensor}
 use Rattle.vector.specs.declared.Vec3.{Vec3}
 use Rattle.vector.specs.declared.Quat.{Quat}
+use Rattle.solver_body.specs.declared.BodyState.{BodyState}
 use Rattle.solver_body.specs.declared.SolverBody.{SolverBody}
 use Rattle.solver_body.specs.declared.SolverBodyInertia.{SolverBodyInertia}
 
 -- 4,096: a position's coordinate may be as large, by refusals 12 and 13
 abbrev pub positionBound : Float
 positionBound = f32 0x4580_0000
+
+-- among the solver's bodies, not moved yet: deltas zero and identity
+unfoldable pub solverBodyOf : BodyState → SolverBody
+solverBodyOf b =
+    record {
+      «linear_velocity» = b .«linear_velocity»;
+      «angular_velocity» = b .«angular_velocity»;
+      «delta_position» = origin;
+      «delta_rotation» = identity;
+    }
 
 -- b with the displacement x and the turn q since the step began
 abbrev pub withDelta : SolverBody → Vec3 → Quat → SolverBody

@@ -3,7 +3,7 @@ use vector::Quat;
 use vector::SymmetricTensor;
 use vector::Vec3;
 ghost use mathlib.Core.Path.{_≡_};
-ghost use Rattle.solver_body.specs.Body.{unlocked, effectiveInvMass};
+ghost use Rattle.solver_body.specs.Body.{solverBodyOf, unlocked, effectiveInvMass};
 ghost use Rattle.solver_body.specs.Parts.{isValid};
 
 // The largest size of a position's coordinate: refusals 12 and 13.
@@ -14,6 +14,36 @@ pub struct RigidBody {
     pub position: Vec3,
     pub rotation: Quat,
     pub center_of_mass: Vec3,
+}
+
+// A body's 13 numbers: in the state, and in the card for the start.
+pub struct BodyState {
+    pub position: Vec3,
+    pub rotation: Quat,
+    pub linear_velocity: Vec3,
+    pub angular_velocity: Vec3,
+}
+
+impl BodyState {
+    pub const REST: BodyState = BodyState {
+        position: Vec3::ZERO,
+        rotation: Quat::IDENTITY,
+        linear_velocity: Vec3::ZERO,
+        angular_velocity: Vec3::ZERO,
+    };
+
+    pub fn solver_body(self) -> SolverBody
+        ensures { λ r. ⌜ r ≡ solverBodyOf self ⌝ }
+    {
+        let linear_velocity = self.linear_velocity;
+        let angular_velocity = self.angular_velocity;
+        SolverBody {
+            linear_velocity,
+            angular_velocity,
+            delta_position: Vec3::ZERO,
+            delta_rotation: Quat::IDENTITY,
+        }
+    }
 }
 
 // A body's velocities, and how far it was moved and turned since the step began.

@@ -10,19 +10,19 @@ use native.Mathlib.Omega.{arith}
 use Rattle.scalar.specs.Arith.{if_then_else_}
 use Rattle.joints.specs.declared.Joint.{Joint}
 use Rattle.solver_body.specs.Body.{dummyBody}
+use Rattle.solver_body.specs.declared.BodyState.{BodyState}
 use Rattle.solver_body.specs.declared.RigidBody.{RigidBody}
 use Rattle.solver_body.specs.declared.SolverBody.{SolverBody}
 use Rattle.xpbd_plugin.specs.Joint.{noTotals}
 use Rattle.xpbd_plugin.specs.declared.JointTotals.{JointTotals}
 use Rattle.tick.specs.Body.{finishedBody}
 use Rattle.tick.specs.Parts.{restingBody}
-use Rattle.tick.specs.declared.body.BodyState.{BodyState}
 use Rattle.card.specs.Layout.{maxJoints, bodyNumbers, totalsPlace}
 use Rattle.card.specs.Records.{dtOf}
 use Rattle.card.specs.declared.records.Header.{Header}
-use Rattle.card_records.specs.State.{numbers3}
+use Rattle.card_records.specs.State.{numbers3, numbersOf}
 use Rattle.card_records.proofs.Writes.{sets-append}
-use Rattle.table.specs.Tick.{bodyStateNumbers, totalsNumbers, storeTotals, anchoredAt, rigidAt, preSolve, before, newBody, storeBody}
+use Rattle.table.specs.Tick.{totalsNumbers, storeTotals, anchoredAt, rigidAt, preSolve, before, newBody, storeBody}
 use Rattle.table.specs.Parts.{rigidIn, finishedOr, storeMoving}
 use Rattle.table.specs.declared.load.TickBody.{TickBody}
 use Rattle.table.proofs.Loops.{getD-in, take-getD}
@@ -33,7 +33,7 @@ finish-as true b = refl
 finish-as false b = refl
 
 store-as : (a : Bool) (b : BodyState) (i : ℕ) (t : List Float)
-    → (if not a then sets t (bodyNumbers * i) (bodyStateNumbers (if a then restingBody else b)) else t) ≡ (if a then t else sets t (bodyNumbers * i) (bodyStateNumbers b))
+    → (if not a then sets t (bodyNumbers * i) (numbersOf (if a then restingBody else b)) else t) ≡ (if a then t else sets t (bodyNumbers * i) (numbersOf b))
 store-as true b i t = refl
 store-as false b i t = refl
 

@@ -16,7 +16,7 @@ use Rattle.xpbd_plugin.specs.declared.JointTotals.{JointTotals}
 use Rattle.tick.specs.Finite.{finite3, finite4}
 use Rattle.tick.specs.Body.{tooFar, bodyFault}
 use Rattle.tick.specs.Parts.{restingBody}
-use Rattle.tick.specs.declared.body.BodyState.{BodyState}
+use Rattle.solver_body.specs.declared.BodyState.{BodyState}
 use Rattle.card.specs.Layout.{totalsPlace, stateLength}
 use Rattle.card.specs.Loop.{anyTo}
 use Rattle.card.proofs.Loops.{any-some}

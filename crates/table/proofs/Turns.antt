@@ -12,10 +12,11 @@ use borrow.Author.Tests.{eq-eqb, ne-eqb}
 use Rattle.scalar.specs.Arith.{if_then_else_}
 use Rattle.vector.specs.declared.Vec3.{Vec3}
 use Rattle.vector.specs.declared.Quat.{Quat}
-use Rattle.solver_body.specs.Body.{dummyBody}
+use Rattle.solver_body.specs.Body.{solverBodyOf, dummyBody}
 use Rattle.solver_body.specs.Parts.{invalidIndex, isValid}
 use Rattle.joints.specs.declared.Joint.{Joint}
 use Rattle.joints.specs.declared.Joint.the-variants.{Fixed, Revolute, Prismatic, Spherical, Distance}
+use Rattle.solver_body.specs.declared.BodyState.{BodyState}
 use Rattle.solver_body.specs.declared.RigidBody.{RigidBody}
 use Rattle.solver_body.specs.declared.SolverBodyInertia.{SolverBodyInertia}
 use Rattle.solver_body.specs.declared.SolverBody.{SolverBody}
@@ -25,10 +26,9 @@ use Rattle.xpbd_joints.specs.Revolute.{revoluteWarmStarted}
 use Rattle.xpbd_joints.specs.Prismatic.{prismaticWarmStarted}
 use Rattle.xpbd_plugin.specs.Joint.{jointPrepared, jointWarmStarted, noTotals}
 use Rattle.xpbd_plugin.specs.declared.JointTotals.{JointTotals}
-use Rattle.tick.specs.Body.{solverBodyOf, integrated}
+use Rattle.tick.specs.Body.{integrated}
 use Rattle.tick.specs.Joint.{jointFinite}
 use Rattle.tick.specs.Parts.{resultOf}
-use Rattle.tick.specs.declared.body.BodyState.{BodyState}
 use Rattle.tick.proofs.WarmValue.{any-warm-value}
 use Rattle.tick.specs.declared.joint.JointResult.{JointResult}
 use Rattle.card.specs.Layout.{maxBodies, maxJoints, maxRate, jointPlace, jointFloats, stateLength}

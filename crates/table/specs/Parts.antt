@@ -9,6 +9,7 @@ use Rattle.vector.specs.Vector.{origin}
 use Rattle.vector.specs.declared.Vec3.{Vec3}
 use Rattle.joints.specs.declared.Joint.{Joint}
 use Rattle.solver_body.specs.Parts.{invalidIndex, isValid}
+use Rattle.solver_body.specs.declared.BodyState.{BodyState}
 use Rattle.solver_body.specs.declared.RigidBody.{RigidBody}
 use Rattle.solver_body.specs.declared.SolverBody.{SolverBody}
 use Rattle.solver_body.specs.declared.SolverBodyIndex.{SolverBodyIndex}
@@ -20,13 +21,12 @@ use Rattle.xpbd_plugin.specs.declared.JointTotals.{JointTotals}
 use Rattle.tick.specs.Body.{integrated, finishedBody}
 use Rattle.tick.specs.Joint.{warmValue}
 use Rattle.tick.specs.Parts.{restingBody, resultOf}
-use Rattle.tick.specs.declared.body.BodyState.{BodyState}
 use Rattle.tick.specs.declared.joint.JointResult.{JointResult}
 use Rattle.card.specs.Layout.{maxBodies, bodyNumbers}
 use Rattle.card_records.specs.Decode.{inertiaAt, centerOfMassAt}
-use Rattle.card_records.specs.State.{Answered, answered}
+use Rattle.card_records.specs.State.{numbersOf, Answered, answered}
 use Rattle.table.specs.Loop.{after}
-use Rattle.table.specs.Tick.{bodyStateAt, bodyStateNumbers, anchoredAt}
+use Rattle.table.specs.Tick.{bodyStateAt, anchoredAt}
 use Rattle.table.specs.Run.{tickNext}
 use Rattle.table.specs.declared.load.TickBody.{TickBody}
 
@@ -60,7 +60,7 @@ finishedOr k rigid pre b dt = if isValid k then finishedBody rigid pre b dt else
 
 -- body i's new numbers, where it moves
 abbrev pub storeMoving : SolverBodyIndex → BodyState → ℕ → List Float → List Float
-storeMoving k b i s = if isValid k then sets s (bodyNumbers * i) (bodyStateNumbers b) else s
+storeMoving k b i s = if isValid k then sets s (bodyNumbers * i) (numbersOf b) else s
 
 -- ---- joints
 

@@ -12,7 +12,8 @@ use Rattle.vector.specs.declared.Quat.{Quat}
 use Rattle.joints.specs.Limit.{zeroLimit}
 use Rattle.joints.specs.declared.Joint.{Joint}
 use Rattle.joints.specs.declared.Joint.the-variants.{Distance}
-use Rattle.solver_body.specs.Body.{dummyBody}
+use Rattle.solver_body.specs.Body.{solverBodyOf, dummyBody}
+use Rattle.solver_body.specs.declared.BodyState.{BodyState}
 use Rattle.solver_body.specs.declared.RigidBody.{RigidBody}
 use Rattle.solver_body.specs.declared.SolverBody.{SolverBody}
 use Rattle.solver_body.specs.declared.BodyPair.{BodyPair}
@@ -22,9 +23,8 @@ use Rattle.xpbd_plugin.specs.declared.InertiaPair.{InertiaPair}
 use Rattle.xpbd_plugin.specs.declared.PreparedJoint.{PreparedJoint}
 use Rattle.xpbd_plugin.specs.declared.JointSolved.{JointSolved}
 use Rattle.xpbd_plugin.specs.declared.JointTotals.{JointTotals}
-use Rattle.tick.specs.Body.{solverBodyOf, integrated, finishedBody, bodyFault}
+use Rattle.tick.specs.Body.{integrated, finishedBody, bodyFault}
 use Rattle.tick.specs.Joint.{warmValue, jointFinite}
-use Rattle.tick.specs.declared.body.BodyState.{BodyState}
 use Rattle.card.specs.Layout.{maxBodies, maxJoints, bodyNumbers, totalsPlace}
 use Rattle.card.specs.Loop.{anyTo}
 use Rattle.card.specs.Records.{bodyBits, jointBits, dtOf}
@@ -52,9 +52,6 @@ bodyStateAt s i =
       «linear_velocity» = vec3In s (at + 7);
       «angular_velocity» = vec3In s (at + 10);
     }
-
-abbrev pub bodyStateNumbers : BodyState → List Float
-bodyStateNumbers b = numbersOf (b .position) (b .rotation) (b .«linear_velocity») (b .«angular_velocity»)
 
 unfoldable pub totalsAt : List Float → ℕ → ℕ → JointTotals
 totalsAt s bodies j =
@@ -190,7 +187,7 @@ module _ (card : List ℕ) (h : Header) (s : List Float) where
 
   -- an anchored body's numbers stay
   abbrev pub storeBody : Solved → ℕ → List Float → List Float
-  storeBody σ i t = if anchoredAt card i then t else sets t (bodyNumbers * i) (bodyStateNumbers (newBody σ i))
+  storeBody σ i t = if anchoredAt card i then t else sets t (bodyNumbers * i) (numbersOf (newBody σ i))
 
   unfoldable pub stored : Solved → List Float
   stored σ = after (storeTotals (h .bodies) (σ .totals)) (after (storeBody σ) s (h .bodies)) (h .joints)

@@ -30,10 +30,11 @@ use card_records::joint::joint_at;
 use card_records::state::check_state;
 use card_records::state::state_answer;
 use solver_body::BodyPair;
+use solver_body::BodyState;
 use solver_body::SolverBody;
 use solver_body::SolverBodyIndex;
 use solver_body::SolverBodyInertia;
-use tick::body::BodyState;
+use tick::body::body_fault;
 use vector::Quat;
 use vector::SymmetricTensor;
 use vector::Vec3;
@@ -202,7 +203,7 @@ fn run_checked(card: &[u8], state: &mut [f32], ticks: u32) -> Answer
             let t = card_bodies[i];
             let body = rigid_in(state, i, t.center_of_mass);
             let b = finished_or(t.index, body, pre_solve[i], bodies[i], dt);
-            if b.fault() {
+            if body_fault(b) {
                 return Answer::Stopped;
             }
             new[i] = b;

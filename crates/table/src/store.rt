@@ -9,10 +9,10 @@ ghost use Rattle.table.specs.Parts.{finishedOr, storeMoving};
 use card::layout::totals_place;
 use card_records::state::write_body;
 use card_records::state::write_vec3;
+use solver_body::BodyState;
 use solver_body::RigidBody;
 use solver_body::SolverBody;
 use solver_body::SolverBodyIndex;
-use tick::body::BodyState;
 use tick::body::finish;
 use xpbd_plugin::JointTotals;
 
@@ -37,14 +37,7 @@ pub fn store_body(state: &mut [f32], i: usize, index: SolverBodyIndex, b: BodySt
     ensures { λ _. ⌜ now (state .exit) ≡ storeMoving index b i (now (state .entry)) ⌝ }
 {
     if index.is_valid() {
-        write_body(
-            state,
-            i,
-            b.position,
-            b.rotation,
-            b.linear_velocity,
-            b.angular_velocity,
-        );
+        write_body(state, i, b);
     }
 }
 

@@ -3,26 +3,16 @@ use mathlib.Core.Bool.{Bool, not, _&&_, _||_}
 use lib.Ieee.{Float, neg}
 use Rattle.scalar.specs.Arith.{_⊕_, _⊗_}
 use Rattle.scalar.specs.Scalar.{outside}
-use Rattle.vector.specs.Vector.{origin, addOf, subOf, scaleOf}
-use Rattle.vector.specs.Rotation.{identity, productOf, turnOf, normalized, ofScaledAxis}
+use Rattle.vector.specs.Vector.{addOf, subOf, scaleOf}
+use Rattle.vector.specs.Rotation.{productOf, turnOf, normalized, ofScaledAxis}
 use Rattle.vector.specs.declared.Vec3.{Vec3}
 use Rattle.solver_body.specs.Body.{positionBound, unlocked}
+use Rattle.solver_body.specs.declared.BodyState.{BodyState}
 use Rattle.solver_body.specs.declared.RigidBody.{RigidBody}
 use Rattle.solver_body.specs.declared.SolverBody.{SolverBody}
 use Rattle.solver_body.specs.declared.SolverBodyInertia.{SolverBodyInertia}
 use Rattle.xpbd_plugin.specs.Plugin.{linearProjected, angularProjected}
 use Rattle.tick.specs.Finite.{finite3, finite4}
-use Rattle.tick.specs.declared.body.BodyState.{BodyState}
-
--- deltas zero and identity
-unfoldable pub solverBodyOf : BodyState → SolverBody
-solverBodyOf b =
-    record {
-      «linear_velocity» = b .«linear_velocity»;
-      «angular_velocity» = b .«angular_velocity»;
-      «delta_position» = origin;
-      «delta_rotation» = identity;
-    }
 
 -- locked linear velocities are zero
 unfoldable pub unlockedVelocity : SolverBodyInertia → Vec3 → Vec3

@@ -6,7 +6,7 @@ use Rattle.xpbd_plugin.specs.Joint.{totalsOf}
 use Rattle.xpbd_plugin.specs.declared.JointSolved.{JointSolved}
 use Rattle.tick.specs.Finite.{bodyFinite}
 use Rattle.tick.specs.Joint.{preparedFinite, totalsFinite, jointFinite}
-use Rattle.tick.specs.declared.body.BodyState.{BodyState}
+use Rattle.solver_body.specs.declared.BodyState.{BodyState}
 use Rattle.tick.specs.declared.joint.JointKept.{JointKept}
 use Rattle.tick.specs.declared.joint.JointResult.{JointResult}
 

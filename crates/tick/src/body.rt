@@ -1,9 +1,10 @@
 // A moving body in a tick, but for its joints.
 ghost use mathlib.Core.Path.{_≡_};
-ghost use Rattle.tick.specs.Body.{solverBodyOf, unlockedVelocity, integrated, projected, finishedBody, tooFar, bodyFault};
+ghost use Rattle.tick.specs.Body.{unlockedVelocity, integrated, projected, finishedBody, tooFar, bodyFault};
 use crate::finite::quat_finite;
 use crate::finite::vec3_finite;
 use scalar::outside;
+use solver_body::BodyState;
 use solver_body::POSITION_BOUND;
 use solver_body::RigidBody;
 use solver_body::SolverBody;
@@ -14,51 +15,21 @@ use vector::Vec3;
 use xpbd_plugin::project_angular_velocity;
 use xpbd_plugin::project_linear_velocity;
 
-// A body's 13 numbers in the state.
-pub struct BodyState {
-    pub position: Vec3,
-    pub rotation: Quat,
-    pub linear_velocity: Vec3,
-    pub angular_velocity: Vec3,
-}
-
-impl BodyState {
-    pub const REST: BodyState = BodyState {
-        position: Vec3::ZERO,
-        rotation: Quat::IDENTITY,
-        linear_velocity: Vec3::ZERO,
-        angular_velocity: Vec3::ZERO,
-    };
-
-    pub fn solver_body(self) -> SolverBody
-        ensures { λ r. ⌜ r ≡ solverBodyOf self ⌝ }
-    {
-        let linear_velocity = self.linear_velocity;
-        let angular_velocity = self.angular_velocity;
-        SolverBody {
-            linear_velocity,
-            angular_velocity,
-            delta_position: Vec3::ZERO,
-            delta_rotation: Quat::IDENTITY,
-        }
-    }
-
-    // Whether a number is not finite, or a coordinate is over 4,096 in size. The tests are joined as in finite.rt.
-    pub fn fault(self) -> bool
-        ensures { λ r. ⌜ r ≡ bodyFault self ⌝ }
-    {
-        let finite = vec3_finite(self.position)
-            & quat_finite(self.rotation)
-            & vec3_finite(self.linear_velocity)
-            & vec3_finite(self.angular_velocity);
-        !finite | too_far(self.position.x) | too_far(self.position.y) | too_far(self.position.z)
-    }
-}
-
 fn too_far(x: f32) -> bool
     ensures { λ r. ⌜ r ≡ tooFar x ⌝ }
 {
     outside(x, -POSITION_BOUND, POSITION_BOUND)
+}
+
+// Whether a number is not finite, or a coordinate is over 4,096 in size. The tests are joined as in finite.rt.
+pub fn body_fault(b: BodyState) -> bool
+    ensures { λ r. ⌜ r ≡ bodyFault b ⌝ }
+{
+    let finite = vec3_finite(b.position)
+        & quat_finite(b.rotation)
+        & vec3_finite(b.linear_velocity)
+        & vec3_finite(b.angular_velocity);
+    !finite | too_far(b.position.x) | too_far(b.position.y) | too_far(b.position.z)
 }
 
 fn unlocked_velocity(inertia: SolverBodyInertia, velocity: Vec3) -> Vec3

@@ -4,7 +4,7 @@ use mathlib.Core.Path.{_≡_, refl}
 use mathlib.Core.List.{_++_}
 use lib.ListN.{length, drop, length-set}
 use Rattle.card.specs.Layout.{bodyNumbers}
-use Rattle.card_records.specs.State.{bodyStart, startTo}
+use Rattle.card_records.specs.State.{startTo}
 use Rattle.card_records.proofs.Writes.{start-none, next-body}
 use Rattle.card_records.proofs.state.write_bodies.Statement.{statement}
 use Rattle.card_records.proofs.state.write_bodies.Tie as tie
@@ -20,7 +20,6 @@ loop-holds : tie.Need-loop-holds Inv-loop μ-loop
 loop-holds c = (omega arith, refl, rw start-none)
 
 loop-again : tie.Need-loop-again Inv-loop μ-loop
-unfolding bodyStart
 loop-again c =
     let w = c .before .before in
     let o = w .before .before .before .before in

@@ -12,7 +12,7 @@ returns c =
     let f = e .before .before .before .before in
     let g = f .before .before .before .before in
     let a = g .before .before .before .args in
-    body-written (a .position) (a .rotation) (a .linear) (a .angular) (a .state .now) (bodyNumbers * a .i)
+    body-written (a .b) (a .state .now) (bodyNumbers * a .i)
     (g .write-vec3 .ensures) (f .write-quat .ensures) (e .write-vec32 .ensures) (d .write-vec33 .ensures)
 
 pub write-body-spec : {M : Type 1} → statement M

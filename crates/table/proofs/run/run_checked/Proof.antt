@@ -336,7 +336,7 @@ returns-3 c =
     let i = k .before .loop8 .inv in
     let e = c .before .before .before .before .before .before .before .before .before .before .before .before .before .before .before .before .before .before in
     let o = turn e .before .loop3 .inv in
-    let fault = accepted-fault _ _ _ (i .6 .going) _ (k .loop8-test .taken) (ap bodyFault (sym (made-is (c .before .before))) ∙ sym (c .before .fault .ensures) ∙ c .if4 .taken) in
+    let fault = accepted-fault _ _ _ (i .6 .going) _ (k .loop8-test .taken) (ap bodyFault (sym (made-is (c .before .before))) ∙ sym (c .before .body-fault .ensures) ∙ c .if4 .taken) in
     ticks-stop _ _ _ (o .2) (fault ∙ ticked e) (turn e .loop3-test .taken) (λ z. omega (arith, z))
 
 loop8-again : tie.Need-loop8-again Inv-loop μ-loop Inv-loop2 μ-loop2 Inv-loop4 μ-loop4 Inv-loop5 μ-loop5 Inv-loop6 μ-loop6 Inv-loop7 μ-loop7 Inv-loop8 μ-loop8 Inv-loop9 μ-loop9 Inv-loop10 μ-loop10 Inv-loop3 μ-loop3
@@ -345,7 +345,7 @@ loop8-again c =
     let i = k .before .loop8 .inv in
     let e = made-is (c .before .before) in (
       omega (arith, i .0, k .loop8-test .taken),
-      any-more _ _ (i .1) (ap bodyFault (sym e) ∙ sym (c .before .fault .ensures) ∙ c .if4 .left),
+      any-more _ _ (i .1) (ap bodyFault (sym e) ∙ sym (c .before .body-fault .ensures) ∙ c .if4 .left),
       after-turn _ _ (i .2) (rw e),
       i .3,
       i .4,

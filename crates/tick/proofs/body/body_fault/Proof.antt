@@ -1,6 +1,6 @@
 use Rattle.tick.specs.Body.{bodyFault}
-use Rattle.tick.proofs.body.BodyState.fault.Statement.{statement}
-use Rattle.tick.proofs.body.BodyState.fault.Tie as tie
+use Rattle.tick.proofs.body.body_fault.Statement.{statement}
+use Rattle.tick.proofs.body.body_fault.Tie as tie
 
 returns : tie.Need-returns
 unfolding bodyFault
@@ -21,5 +21,5 @@ returns c =
       c .too-far3 .ensures,
     )
 
-pub fault-spec : {M : Type 1} → statement M
-fault-spec = tie.close (tie.spec (λ _ _. tt) (λ _ _. tt) (λ _ _. tt) (λ _ _. tt) (λ _ _. tt) (λ _ _. tt) (λ _ _. tt) returns)
+pub body-fault-spec : {M : Type 1} → statement M
+body-fault-spec = tie.close (tie.spec (λ _ _. tt) (λ _ _. tt) (λ _ _. tt) (λ _ _. tt) (λ _ _. tt) (λ _ _. tt) (λ _ _. tt) returns)
