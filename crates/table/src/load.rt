@@ -104,7 +104,7 @@ fn index_of(anchored: bool, i: usize) -> SolverBodyIndex
     SolverBodyIndex(i as u32)
 }
 
-// A body among the solver's bodies, before the tick moves it.
+// A body among the solver's bodies as the tick begins: the dummy for an anchored one.
 pub fn loaded_or(index: SolverBodyIndex, at: BodyState) -> SolverBody
     ensures { λ r. ⌜ r ≡ moved index dummyBody (solverBodyOf at) ⌝ }
 {
