@@ -18,7 +18,7 @@ use std::time::Instant;
 
 const TICKS: u32 = 100;
 
-/// The Rattle's times differ by up to a tenth from process to process, for a reason that is not known, so that they are taken from several.
+/// On one machine the Rattle's times differed by up to a tenth from process to process, for a reason that is not known, so that they are taken from several.
 const PROCESSES: usize = 11;
 const SIDES: [&str; 2] = ["oracle", "rattle"];
 const CALLS: [&str; 2] = ["tick", "run"];
