@@ -1441,6 +1441,21 @@ pub fn state(random: &mut Random, card: &Card) -> Vec<f32> {
                 *number = random.ordinary();
             }
         }
+        6 => {
+            // Some ticks before the first body passes 4,096, if all go on as they do.
+            let (axis, way) = (random.below(3), random.sign());
+            let velocity = random.between(16.0, 1024.0);
+            let left = velocity * card.dt() * random.between(0.0, 5.0);
+            let numbers = &mut state[..BODY_NUMBERS * card.bodies.len()];
+            let first = numbers
+                .chunks(BODY_NUMBERS)
+                .map(|body| way * body[axis])
+                .fold(f32::MIN, f32::max);
+            for body in numbers.chunks_mut(BODY_NUMBERS) {
+                body[axis] += way * (4096.0 - left - first);
+                body[7 + axis] += way * velocity;
+            }
+        }
         _ => {}
     }
     match random.below(24) {

@@ -1,5 +1,7 @@
 //! The Rattle's own calls, by the static libraries of the crates `host` and `host_parts`. What each takes and gives is said there.
 
+use crate::table::{Ran, Sizes};
+
 #[link(name = "host_parts", kind = "static")]
 extern "C" {
     fn linkage_abs(x: f32) -> f32;
@@ -99,9 +101,62 @@ extern "C" {
 #[link(name = "host", kind = "static")]
 extern "C" {
     pub fn linkage_check(card: *const u8, n: usize) -> u32;
+    pub fn linkage_sizes(
+        card: *const u8,
+        n: usize,
+        bodies: *mut u32,
+        joints: *mut u32,
+        numbers: *mut u32,
+    ) -> u32;
     pub fn linkage_start(card: *const u8, n: usize, state: *mut f32, m: usize) -> u32;
     pub fn linkage_tick(card: *const u8, n: usize, state: *mut f32, m: usize) -> u32;
-    pub fn linkage_run(card: *const u8, n: usize, state: *mut f32, m: usize, ticks: u32) -> u32;
+    pub fn linkage_run(
+        card: *const u8,
+        n: usize,
+        state: *mut f32,
+        m: usize,
+        ticks: u32,
+        done: *mut u32,
+    ) -> u32;
+}
+
+/// A count before the call that is to write it: what no call answers.
+const UNWRITTEN: u32 = u32::MAX;
+
+fn sizes(card: &[u8]) -> Sizes {
+    let [mut bodies, mut joints, mut numbers] = [UNWRITTEN; 3];
+    // SAFETY: the card lives through the call, which writes the three counts.
+    let number = unsafe {
+        linkage_sizes(
+            card.as_ptr(),
+            card.len(),
+            &mut bodies,
+            &mut joints,
+            &mut numbers,
+        )
+    };
+    Sizes {
+        number,
+        bodies,
+        joints,
+        numbers,
+    }
+}
+
+fn run(card: &[u8], state: &mut [f32], ticks: u32) -> Ran {
+    let mut done = UNWRITTEN;
+    // SAFETY: card and state live through the call, which writes the state and the count.
+    let number = unsafe {
+        linkage_run(
+            card.as_ptr(),
+            card.len(),
+            state.as_mut_ptr(),
+            state.len(),
+            ticks,
+            &mut done,
+        )
+    };
+    Ran { number, done }
 }
 
 /// The table's calls of the Rattle.
@@ -109,21 +164,14 @@ pub fn table() -> crate::compare::Table {
     crate::compare::Table {
         // SAFETY: each pointer and count is that of a slice that lives through the call, and only a state's is written.
         check: |card| unsafe { linkage_check(card.as_ptr(), card.len()) },
+        sizes,
         start: |card, state| unsafe {
             linkage_start(card.as_ptr(), card.len(), state.as_mut_ptr(), state.len())
         },
         tick: |card, state| unsafe {
             linkage_tick(card.as_ptr(), card.len(), state.as_mut_ptr(), state.len())
         },
-        run: |card, state, ticks| unsafe {
-            linkage_run(
-                card.as_ptr(),
-                card.len(),
-                state.as_mut_ptr(),
-                state.len(),
-                ticks,
-            )
-        },
+        run,
     }
 }
 

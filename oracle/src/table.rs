@@ -1,4 +1,4 @@
-//! Document 01, 'One tick', 'Turned back' 13 and 'Examples': start, tick, run, and the program's output.
+//! Document 01, 'One tick', 'Turned back' 13 and 'Examples': a state's size, start, tick, run, and the program's output.
 
 use crate::card::{self, Card, BODY_NUMBERS, JOINT_NUMBERS};
 use crate::math;
@@ -27,32 +27,72 @@ pub fn tick(card: &[u8], state: &mut [f32]) -> u32 {
     number(ticked(card, state))
 }
 
-/// Ticks in a row, up to the first that is refused. Card and state are checked even for none.
-pub fn run(card: &[u8], state: &mut [f32], ticks: u32) -> u32 {
-    number(ran(card, state, ticks))
+/// What a card's state needs: 0 and the counts of bodies, joints and floats, or the card's refusal and zeros.
+#[derive(Clone, Copy, Debug, Default, PartialEq)]
+pub struct Sizes {
+    pub number: u32,
+    pub bodies: u32,
+    pub joints: u32,
+    pub numbers: u32,
+}
+
+pub fn sizes(card: &[u8]) -> Sizes {
+    match card::check(card) {
+        Ok(card) => Sizes {
+            number: 0,
+            bodies: card.bodies.len() as u32,
+            joints: card.joints.len() as u32,
+            numbers: card.state_length() as u32,
+        },
+        Err(number) => Sizes {
+            number,
+            ..Sizes::default()
+        },
+    }
+}
+
+/// What a run answers: 0 and its ticks, or the refusal and how many ticks were done before it.
+#[derive(Clone, Copy, Debug, PartialEq)]
+pub struct Ran {
+    pub number: u32,
+    pub done: u32,
+}
+
+/// Ticks in a row, all of them or none: a refusal in any leaves the state as it was.
+pub fn run(card: &[u8], state: &mut [f32], ticks: u32) -> Ran {
+    let card = match accepted(card, state) {
+        Ok(card) => card,
+        Err(number) => return Ran { number, done: 0 },
+    };
+    let mut next = state.to_vec();
+    for done in 0..ticks {
+        if let Err(number) = step(&card, &mut next) {
+            return Ran { number, done };
+        }
+    }
+    state.copy_from_slice(&next);
+    Ran {
+        number: 0,
+        done: ticks,
+    }
+}
+
+/// The card, where no check from 1 to 11 refuses it and the state.
+fn accepted(card: &[u8], state: &[f32]) -> Result<Card, u32> {
+    let card = card::check(card)?;
+    card::check_state_length(&card, state)?;
+    Ok(card)
 }
 
 fn started(card: &[u8], state: &mut [f32]) -> Result<(), u32> {
-    let card = card::check(card)?;
-    card::check_state_length(&card, state)?;
+    let card = accepted(card, state)?;
     state.copy_from_slice(&start_state(&card));
     Ok(())
 }
 
 fn ticked(card: &[u8], state: &mut [f32]) -> Result<(), u32> {
-    let card = card::check(card)?;
-    card::check_state_length(&card, state)?;
+    let card = accepted(card, state)?;
     step(&card, state)
-}
-
-fn ran(card: &[u8], state: &mut [f32], ticks: u32) -> Result<(), u32> {
-    let card = card::check(card)?;
-    card::check_state_length(&card, state)?;
-    card::check_state_numbers(&card, state)?;
-    for _ in 0..ticks {
-        step(&card, state)?;
-    }
-    Ok(())
 }
 
 pub fn start_state(card: &Card) -> Vec<f32> {
@@ -326,7 +366,7 @@ mod tests {
         assert!(text.ends_with("refused 13\n"));
         let mut state = start_state(&card);
         let bytes = card.encode();
-        assert_eq!(run(&bytes, &mut state, 3072), 0);
+        assert_eq!(run(&bytes, &mut state, 3072), ran(0, 3072));
         assert_eq!(state[0], 4096.0);
         let before = state.clone();
         assert_eq!(tick(&bytes, &mut state), 13);
@@ -341,14 +381,79 @@ mod tests {
             let mut state = vec![7.0; 13];
             assert_ne!(start(refused, &mut state), 0);
             assert_ne!(tick(refused, &mut state), 0);
-            assert_ne!(run(refused, &mut state, 0), 0);
+            assert_eq!(run(refused, &mut state, 0), ran(check(refused), 0));
+            assert_eq!(run(refused, &mut state, 3), ran(check(refused), 0));
             assert_eq!(state, [7.0; 13]);
         }
         let mut long = vec![7.0; 14];
         assert_eq!(start(&bytes, &mut long), 11);
         assert_eq!(tick(&bytes, &mut long), 11);
-        assert_eq!(run(&bytes, &mut long, 0), 11);
+        assert_eq!(run(&bytes, &mut long, 0), ran(11, 0));
+        assert_eq!(run(&bytes, &mut long, 3), ran(11, 0));
         assert_eq!(long, [7.0; 14]);
+    }
+
+    fn ran(number: u32, done: u32) -> Ran {
+        Ran { number, done }
+    }
+
+    #[test]
+    fn a_run_is_all_or_nothing() {
+        // Its one body moves 64 in a tick: tick 1 ends at 4,064, tick 2 beyond 4,096.
+        let card = Card::example();
+        let bytes = card.encode();
+        let mut state = start_state(&card);
+        state[0] = 4000.0;
+        state[7] = 1024.0;
+        let before = state.clone();
+        assert_eq!(run(&bytes, &mut state, 2), ran(13, 1));
+        assert_eq!(state, before);
+        assert_eq!(run(&bytes, &mut state, u32::MAX), ran(13, 1));
+        assert_eq!(state, before);
+        assert_eq!(run(&bytes, &mut state, 1), ran(0, 1));
+        assert_eq!(state[0], 4064.0);
+        assert_eq!(run(&bytes, &mut state, 1), ran(13, 0));
+        assert_eq!(state[0], 4064.0);
+    }
+
+    #[test]
+    fn a_run_of_no_ticks_looks_at_no_number() {
+        let card = Card::example();
+        let bytes = card.encode();
+        let mut state = start_state(&card);
+        state[12] = f32::INFINITY;
+        state[0] = 5000.0;
+        let before = state.clone();
+        assert_eq!(run(&bytes, &mut state, 0), ran(0, 0));
+        assert_eq!(run(&bytes, &mut state, 1), ran(12, 0));
+        assert_eq!(state, before);
+        assert_eq!(run(&bytes, &mut state[..12], 0), ran(11, 0));
+        assert_eq!(state, before);
+    }
+
+    #[test]
+    fn sizes_of_cards() {
+        let mut card = Card::example();
+        let of = |bodies, joints, numbers| Sizes {
+            number: 0,
+            bodies,
+            joints,
+            numbers,
+        };
+        assert_eq!(sizes(&card.encode()), of(1, 0, 13));
+        card.bodies.push(Body::ANCHORED);
+        card.joints = vec![Joint::plain(card::HINGE, 0, 1)];
+        assert_eq!(sizes(&card.encode()), of(2, 1, 38));
+        card.bodies = vec![Body::UNIT; 32];
+        card.joints = vec![Joint::plain(card::HINGE, 0, 1); 32];
+        assert_eq!(sizes(&card.encode()), of(32, 32, 800));
+        card.joints[31].body2 = 0;
+        let refused = Sizes {
+            number: 10,
+            ..of(0, 0, 0)
+        };
+        assert_eq!(sizes(&card.encode()), refused);
+        assert_eq!(sizes(&[]).number, 1);
     }
 
     #[test]

@@ -1,117 +1,178 @@
--- A card that no check refuses, check by check.
-use Prim.Native.Nat.{ℕ, zero, suc, _+_, _*_, _≤_, _<_}
+-- A card that no check refuses, row by row.
+use Prim.Native.Nat.{ℕ, zero, suc, _+_, _*_, _<_}
+use native.Mathlib.Nat.{le-of-suc-le-suc}
 use native.Mathlib.Omega.{arith}
 use mathlib.Core.Path.{_≡_, refl}
-use mathlib.Core.Bool.{Bool, true, false, _||_, _&&_}
+use mathlib.Core.Bool.{Bool, true, false, _||_, _&&_, cond, true≢false}
 use mathlib.Core.List.{List, [], _∷_}
+use mathlib.Core.Logic.{inl}
+use lib.ListN.{length, getD, List·getD-eq-default}
 use lib.Dec.{T, leb, ltb, eqb}
-use borrow.Author.Tests.{ltb-false, leb-false, eqb-true, not-false}
-use Rattle.card.specs.Layout.{maxBodies, maxJoints, minRate, bodyFloats, jointFloats, bodyFloatCount, jointFloatCount}
-use Rattle.card.specs.Bits.{floatAt}
-use Rattle.card.specs.Loop.{anyTo}
-use Rattle.card.specs.Fields.{floatOf}
-use Rattle.card.specs.Records.{headerAt, bodyBits, jointBits}
-use Rattle.card.specs.Checks.{countsFault, rateFault, outOfRange, pairFault, headerFault, bodyFault, jointFault, recordFault, Refusal, refuse, firstOf, cardChecks, checkOf}
-use Rattle.card.specs.Accepted.{InRange, AcceptedBody, AcceptedJoint, Accepted}
-use Rattle.card.specs.declared.fields.Form.{Form}
-use Rattle.card.specs.declared.fields.Form.the-variants.{BodyForm, JointForm}
-use Rattle.card.specs.declared.checks.RecordCheck.{RecordCheck}
-use Rattle.card.specs.declared.checks.RecordCheck.the-variants.{Floats, Bodies}
-use Rattle.card.proofs.Bools.{or-left, or-right}
-use Rattle.card.proofs.Loops.{any-not}
-use Rattle.card.proofs.Ranges.{float-fits, in-range}
+use lib.Ieee.{Float, binary32, ofBits, ofFields, neg, fits, le}
+use lib.Ieee.Bits.{ofBits-fits}
+use lib.Ieee.Fits.{neg-fits}
+use borrow.Author.Tests.{ltb-false, leb-true, leb-false, eqb-true, eqb-false, not-false}
+use Rattle.laws.proofs.Place.{Held, le→place, le-real}
+use Rattle.laws.proofs.Between.{amid-finite}
+use Rattle.scalar.specs.Arith.{f32, f0, largest}
+use Rattle.scalar.specs.Scalar.{outside}
+use Rattle.card.specs.Format.{Range}
+use Rattle.card.specs.Format.{Any, Bounded, NotNegative, Cap}
+use Rattle.card.specs.Format.{bitsAt, bound, Cell, widthOf, numbersAt, recordsAt, anyCell, unusedSet, outOf, outOfRange}
+use Rattle.card.specs.Card.{at, body, noKind, kinds, kindAt, editions, editionAt, cardOf}
+use Rattle.card.specs.Checks.{any, misfit, anchored, wrongPair, Refusal, refuse, firstOf, cardChecks, checkOf}
+use Rattle.card.specs.Accepted.{Real, In, Ranged, Accepted}
+use Rattle.card.proofs.Bools.{both, or-left, or-right}
+use Rattle.card.proofs.Cut.{records-length, record-at}
 
--- ---- 3: the counts
+-- ---- a row of the checks, by its number
 
-module _ (bodies joints : ℕ) (e : countsFault bodies joints ≡ false) where
-  pub few-bodies : bodies ≤ maxBodies
-  unfolding countsFault
-  few-bodies = ltb-false maxBodies bodies (or-right (eqb bodies 0) (ltb maxBodies bodies) (or-left (eqb bodies 0 || ltb maxBodies bodies) (ltb maxJoints joints) e))
+abbrev pub testOf : ℕ → List Refusal → Bool
+testOf n [] = false
+testOf n (refuse k b ∷ checks) = cond (eqb n k) b (testOf n checks)
 
-  pub few-joints : joints ≤ maxJoints
-  unfolding countsFault
-  few-joints = ltb-false maxJoints joints (or-right (eqb bodies 0 || ltb maxBodies bodies) (ltb maxJoints joints) e)
-
--- ---- 7: the floats
-
-ranges : (card : List ℕ) (form : Form) (floats count : ℕ) → anyTo (outOfRange card form floats) count ≡ false
-    → (n : ℕ) → n < count → InRange (floatOf form n .range) (floatAt card (floats + 4 * n))
-unfolding outOfRange
-ranges card form floats count e n l = in-range _ _ (float-fits card _) (any-not (outOfRange card form floats) n count l e)
-
-accepted-body : (card : List ℕ) (i : ℕ) → bodyFault card Floats i ≡ false → AcceptedBody card i
-unfolding bodyFault
-accepted-body card i e = record { floats = ranges card (BodyForm (bodyBits card i)) (bodyFloats i) bodyFloatCount e }
-
--- ---- 10: the bodies that a joint names
-
-module _ (card : List ℕ) (bodies a b : ℕ) (e : pairFault card bodies a b ≡ false) where
-  there : (leb bodies a || leb bodies b) ≡ false
-  unfolding pairFault
-  there = or-left (leb bodies a || leb bodies b) (eqb a b) (or-left (leb bodies a || leb bodies b || eqb a b) (bodyBits card a .anchored && bodyBits card b .anchored) e)
-
-  first-body : a < bodies
-  first-body = leb-false bodies a (or-left (leb bodies a) (leb bodies b) there)
-
-  second-body : b < bodies
-  second-body = leb-false bodies b (or-right (leb bodies a) (leb bodies b) there)
-
-accepted-joint : (card : List ℕ) (bodies j : ℕ) → jointFault card bodies Floats j ≡ false → jointFault card bodies Bodies j ≡ false → AcceptedJoint card bodies j
-unfolding jointFault
-accepted-joint card bodies j floats named =
-    record {
-      floats = ranges card (JointForm (jointBits card bodies j)) (jointFloats bodies j) jointFloatCount floats;
-      body1 = first-body card bodies _ _ named;
-      body2 = second-body card bodies _ _ named;
-    }
-
--- ---- the records
-
--- no record of a card is refused by a check
-module _ (card : List ℕ) (bodies joints : ℕ) (k : RecordCheck) (e : recordFault card bodies joints k ≡ false) where
-  body-passed : (i : ℕ) → i < bodies → bodyFault card k i ≡ false
-  unfolding recordFault
-  body-passed i l =
-      any-not (bodyFault card k) i bodies l
-      (or-right (headerFault card k) _ (or-left (headerFault card k || anyTo (bodyFault card k) bodies) _ e))
-
-  joint-passed : (j : ℕ) → j < joints → jointFault card bodies k j ≡ false
-  unfolding recordFault
-  joint-passed j l =
-      any-not (jointFault card bodies k) j joints l (or-right (headerFault card k || anyTo (bodyFault card k) bodies) _ e)
-
--- ---- the card
-
-abbrev Passed : List Refusal → Type 0
-Passed [] = Unit
-Passed (refuse k b ∷ checks) = (b ≡ false) × Passed checks
-
-abbrev numbered : List Refusal → Bool
+abbrev pub numbered : List Refusal → Bool
 numbered [] = true
 numbered (refuse zero b ∷ checks) = false
 numbered (refuse (suc k) b ∷ checks) = numbered checks
 
-passed : (checks : List Refusal) → T (numbered checks) → firstOf checks ≡ 0 → Passed checks
-passed [] t e = tt
-passed (refuse zero b ∷ checks) t e = absurd t
-passed (refuse (suc k) true ∷ checks) t e = absurd (omega arith)
-passed (refuse (suc k) false ∷ checks) t e = (refl, passed checks t e)
+either : (c b : Bool) → b ≡ false → cond c false b ≡ false
+either true b e = refl
+either false b e = e
+
+pub passed : (checks : List Refusal) → T (numbered checks) → firstOf checks ≡ 0 → (n : ℕ) → testOf n checks ≡ false
+passed [] t e n = refl
+passed (refuse zero b ∷ checks) t e n = absurd t
+passed (refuse (suc k) true ∷ checks) t e n = absurd (omega arith)
+passed (refuse (suc k) false ∷ checks) t e n = either (eqb n (suc k)) (testOf n checks) (passed checks t e n)
+
+pub any-not : (p : List ℕ → Bool) (l : List (List ℕ)) (i : ℕ) → i < length l → any p l ≡ false → p (getD l i []) ≡ false
+unfolding any
+any-not p [] i h e = absurd (omega arith)
+any-not p (x ∷ l) zero h e = or-left (p x) (any p l) e
+any-not p (x ∷ l) (suc i) h e = any-not p l i (le-of-suc-le-suc h) (or-right (p x) (any p l) e)
+
+-- ---- 7: the numbers in range
+
+bounds : (low high x : Float) → Held binary32 low → Held binary32 high → T (fits binary32 x) → outside x low high ≡ false → Real low x
+unfolding outside
+bounds low high x l g f e =
+    let b = both (le low x) (le x high) e in
+    record {
+      held = (
+        f,
+        amid-finite binary32 low x high l (le-real low x (b .0) .1) g
+            (inl (le→place binary32 low x (l .0) f (b .0), le→place binary32 x high f (g .0) (b .1))),
+      );
+      above = b .0;
+    }
+
+bound-held : Held binary32 bound
+unfolding ofBits ofFields
+bound-held = (ofBits-fits binary32 0x4480_0000, tt)
+
+below-held : Held binary32 (neg bound)
+unfolding ofBits ofFields neg
+below-held = (neg-fits binary32 bound (ofBits-fits binary32 0x4480_0000), tt)
+
+zero-held : Held binary32 f0
+unfolding ofBits ofFields
+zero-held = (ofBits-fits binary32 0, tt)
+
+largest-held : Held binary32 largest
+unfolding ofBits ofFields
+largest-held = (ofBits-fits binary32 0x7f7f_ffff, tt)
+
+in-range : (r : Range) (n : ℕ) → outOf r n ≡ false → In r n
+unfolding outOf
+in-range Any n e = tt
+in-range Bounded n e = bounds _ _ (f32 n) below-held bound-held (ofBits-fits binary32 n) e
+in-range NotNegative n e = bounds _ _ (f32 n) zero-held bound-held (ofBits-fits binary32 n) e
+in-range Cap n e = bounds _ _ (f32 n) zero-held largest-held (ofBits-fits binary32 n) e
+
+ranged : (cs : List Cell) (l : List ℕ) (p : ℕ) → outOfRange cs (numbersAt cs l p) ≡ false → Ranged cs (numbersAt cs l p)
+unfolding anyCell numbersAt
+ranged [] l p e k = tt
+ranged (c ∷ cs) l p e zero = in-range (c .range) (bitsAt l p (c .width)) (or-left (outOf (c .range) (bitsAt l p (c .width))) _ e)
+ranged (c ∷ cs) l p e (suc k) = ranged cs l (p + c .width) (or-right (outOf (c .range) (bitsAt l p (c .width))) _ e) k
+
+-- ---- the records of a row
+
+module _ (cs : List Cell) (l : List ℕ) (p n : ℕ) where
+  abbrev row : List (List ℕ)
+  row = recordsAt cs l p n
+
+  row-ranged : any (outOfRange cs) row ≡ false → (i : ℕ) → i < length row → Ranged cs (getD row i [])
+  row-ranged e i h =
+      let within : i < n = rw (records-length cs l p n) at h in
+      let here = record-at cs l p n i within in
+      let passes : outOfRange cs (numbersAt cs l (p + i * widthOf cs)) ≡ false = rw here at (any-not (outOfRange cs) row i h e) in
+      rw here (ranged cs l (p + i * widthOf cs) passes)
+
+-- ---- 6: no kind above the listed ones fits
+
+known : (j : List ℕ) → misfit j ≡ false → at 0 j < length kinds
+unfolding kindAt
+known j e = within (leb (length kinds) (at 0 j)) refl
+  where
+    within : (s : Bool) → leb (length kinds) (at 0 j) ≡ s → at 0 j < length kinds
+    within false n = leb-false (length kinds) (at 0 j) n
+    within true y = absurd (true≢false (rw (List·getD-eq-default kinds noKind {n = at 0 j} (leb-true (length kinds) (at 0 j) y)) at e))
+
+-- ---- 10: the bodies that a joint names
+
+module _ (bodies : List (List ℕ)) (a b : ℕ) (e : wrongPair bodies a b ≡ false) where
+  there : (leb (length bodies) a || leb (length bodies) b) ≡ false
+  there =
+      or-left (leb (length bodies) a || leb (length bodies) b) (eqb a b)
+      (or-left (leb (length bodies) a || leb (length bodies) b || eqb a b) (anchored bodies a && anchored bodies b) e)
+
+  first-body : a < length bodies
+  first-body = leb-false (length bodies) a (or-left (leb (length bodies) a) (leb (length bodies) b) there)
+
+  second-body : b < length bodies
+  second-body = leb-false (length bodies) b (or-right (leb (length bodies) a) (leb (length bodies) b) there)
+
+-- ---- the card
 
 pub accepted : (card : List ℕ) → checkOf card ≡ 0 → Accepted card
-unfolding checkOf rateFault
-accepted card e =
-    let h = headerAt card in
-    let p = passed (cardChecks card h) tt e in
-    let counts = p .1 .1 .0 in
-    let rate = p .1 .1 .1 .0 in
-    let floats = p .1 .1 .1 .1 .1 .1 .0 in
-    let named = p .1 .1 .1 .1 .1 .1 .1 .1 .1 .0 in
+unfolding checkOf cardOf
+accepted card z =
+    let e = editionAt card in
+    let c = cardOf card in
+    let t = passed (cardChecks e card c) tt z in
+    let n = bitsAt card 0 8 in
+    let bodies = at 1 (c .header) in
+    let joints = at 2 (c .header) in
+    let rate = at 3 (c .header) in
+    let counts = t 3 in
+    let bits = or-right (unusedSet (e .header) (c .header) || any (unusedSet body) (c .bodies)) (any (λ j. unusedSet (e .joint) j || misfit j) (c .joints)) (t 6) in
+    let floats = or-left (outOfRange (e .header) (c .header) || any (outOfRange body) (c .bodies)) (any (outOfRange (e .joint)) (c .joints)) (t 7) in
+    let last = or-right (outOfRange (e .header) (c .header) || any (outOfRange body) (c .bodies)) (any (outOfRange (e .joint)) (c .joints)) (t 7) in
+    let size = widthOf (e .header) + widthOf body * bodies + widthOf (e .joint) * joints in
+    let whole : 8 * length card ≡ size = eqb-true (8 * length card) size (not-false (eqb (8 * length card) size) (t 5)) in
     record {
-      few-bodies = few-bodies (h .bodies) (h .joints) counts;
-      few-joints = few-joints (h .bodies) (h .joints) counts;
-      least-rate = ltb-false _ _ (or-left (ltb (h .rate) minRate) _ rate);
-      most-rate = ltb-false _ _ (or-right (ltb (h .rate) minRate) _ rate);
-      whole = eqb-true _ _ (not-false _ (p .1 .1 .1 .1 .0));
-      body = λ i l. accepted-body card i (body-passed card _ _ Floats floats i l);
-      joint = λ j l. accepted-joint card (h .bodies) j (joint-passed card _ _ Floats floats j l) (joint-passed card _ _ Bodies named j l);
+      edition = (omega (arith, eqb-false n 0 (or-left (eqb n 0) (ltb (length editions) n) (t 2))), ltb-false (length editions) n (or-right (eqb n 0) (ltb (length editions) n) (t 2)));
+      enough = omega (arith, whole);
+      has =
+          record {
+            bodies = records-length body card _ _;
+            joints = records-length (e .joint) card _ _;
+            few-bodies = ltb-false (e .most) bodies (or-right (eqb bodies 0) (ltb (e .most) bodies) (or-left (eqb bodies 0 || ltb (e .most) bodies) (ltb (e .most) joints) counts));
+            few-joints = ltb-false (e .most) joints (or-right (eqb bodies 0 || ltb (e .most) bodies) (ltb (e .most) joints) counts);
+            least-rate = ltb-false rate 16 (or-left (ltb rate 16) (ltb (e .fastest) rate) (t 4));
+            most-rate = ltb-false (e .fastest) rate (or-right (ltb rate 16) (ltb (e .fastest) rate) (t 4));
+            header = ranged (e .header) card 0 (or-left (outOfRange (e .header) (c .header)) (any (outOfRange body) (c .bodies)) floats);
+            body = row-ranged body card _ _ (or-right (outOfRange (e .header) (c .header)) (any (outOfRange body) (c .bodies)) floats);
+            joint = λ i h.
+                let j = getD (c .joints) i [] in
+                let pair = any-not (λ r. wrongPair (c .bodies) (at 1 r) (at 2 r)) (c .joints) i h (t 10) in
+                let fit = or-right (unusedSet (e .joint) j) (misfit j) (any-not (λ r. unusedSet (e .joint) r || misfit r) (c .joints) i h bits) in
+                record {
+                  ranged = row-ranged (e .joint) card _ _ last i h;
+                  kind = known j fit;
+                  body1 = first-body (c .bodies) (at 1 j) (at 2 j) pair;
+                  body2 = second-body (c .bodies) (at 1 j) (at 2 j) pair;
+                };
+          };
     }

@@ -15,6 +15,15 @@ first none = refl
 first (applies e) = rw e
 first (passes e f) = rw e (first f)
 
+-- checks whose answer is known
+pub answer : (checks : List Refusal) → First checks (firstOf checks)
+answer [] = none
+answer (refuse k true ∷ checks) = applies refl
+answer (refuse k false ∷ checks) = passes refl (answer checks)
+
+pub ends : (checks : List Refusal) {n : ℕ} → n ≡ firstOf checks → First checks n
+ends checks e = rw e (answer checks)
+
 -- the checks behind the first k
 abbrev pub behind : ℕ → List Refusal → List Refusal
 behind zero checks = checks

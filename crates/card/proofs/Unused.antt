@@ -1,44 +1,44 @@
--- What check 6 asks of the numbers that a record begins with.
+-- Once check 6 has passed a number without use is zero, and so in range: check 7 need only look at those that have use.
 use Prim.Native.Nat.{ℕ}
 use mathlib.Core.Path.{_≡_, refl}
-use mathlib.Core.Bool.{Bool, true, false, not, _||_, _&&_, or-false}
-use mathlib.Core.List.{List}
+use mathlib.Core.Bool.{Bool, true, false, not, _&&_, and-true}
+use mathlib.Core.List.{List, [], _∷_}
 use lib.Dec.{eqb}
-use Rattle.card.specs.Bits.{bits24, bits32}
-use Rattle.card.specs.Layout.{jointPlace}
-use Rattle.card.specs.Fields.{kindOf, headerFields, jointFields, unusedBits}
-use Rattle.card.specs.Records.{headerAt, bodyBits, jointBits}
-use Rattle.card.specs.Checks.{bodyBitsFault, bitsFit, jointBitsFault}
-use Rattle.card.specs.declared.records.BodyBits.{BodyBits}
-use Rattle.card.specs.declared.records.JointBits.{JointBits}
+use lib.Ieee.{ofBits, ofFields, neg, le, lt, eq}
+use borrow.Author.Tests.{eqb-true, not-false}
+use Rattle.scalar.specs.Scalar.{outside}
+use Rattle.card.specs.Format.{Range}
+use Rattle.card.specs.Format.{Any, Bounded, NotNegative, Cap}
+use Rattle.card.specs.Format.{Cell, anyCell, unusedSet, outOf, outOfRange}
+use Rattle.card.specs.Checks.{any}
+use Rattle.card.specs.Parts.{usedOut}
+use Rattle.card.proofs.Bools.{or-left, or-right}
 
-abbrev isSet : ℕ → Bool
-isSet n = not (eqb n 0)
+zero-in : (r : Range) → outOf r 0 ≡ false
+unfolding outOf outside ofBits ofFields neg le lt eq
+zero-in Any = refl
+zero-in Bounded = refl
+zero-in NotNegative = refl
+zero-in Cap = refl
 
-pub header-unused : (card : List ℕ) → unusedBits tt headerFields (bits32 card 0) ≡ isSet (headerAt card .zero)
-unfolding headerAt
-header-unused card = simp or-false
+number : (r : Range) (used : Bool) (n : ℕ) → (not used && not (eqb n 0)) ≡ false → (outOf r n && used) ≡ outOf r n
+number r true n e = and-true (outOf r n)
+number r false n e = rw (eqb-true n 0 (not-false (eqb n 0) e), zero-in r)
 
-module _ (card : List ℕ) (bodies j : ℕ) {b : JointBits} (e : b ≡ jointBits card bodies j) where
-  numbers : unusedBits (jointBits card bodies j) jointFields (bits24 card (jointPlace bodies j)) ≡ isSet (jointBits card bodies j .zero)
-  unfolding jointBits
-  numbers = simp or-false
+-- `all` are the record's numbers, by which a cell has use
+module _ (all : List ℕ) where
+  numbers : (cs : List Cell) (ns : List ℕ) → anyCell (λ c n. not (c .used all) && not (eqb n 0)) cs ns ≡ false
+      → anyCell (λ c n. outOf (c .range) n && c .used all) cs ns ≡ anyCell (λ c n. outOf (c .range) n) cs ns
+  unfolding anyCell
+  numbers [] ns e = refl
+  numbers (c ∷ cs) [] e = refl
+  numbers (c ∷ cs) (n ∷ ns) e = rw (number (c .range) (c .used all) n (or-left (not (c .used all) && not (eqb n 0)) _ e), numbers cs ns (or-right (not (c .used all) && not (eqb n 0)) _ e))
 
-  pub joint-unused : jointBitsFault card bodies j ≡ (isSet (b .zero) || not (bitsFit (kindOf (b .kind)) b))
-  unfolding jointBitsFault
-  joint-unused = rw (e, numbers)
+pub used-enough : (cs : List Cell) (ns : List ℕ) → unusedSet cs ns ≡ false → usedOut cs ns ≡ outOfRange cs ns
+used-enough cs ns e = numbers ns cs ns e
 
-module _ (card : List ℕ) (i : ℕ) {b : BodyBits} (e : b ≡ bodyBits card i) where
-  pub body-unused : bodyBitsFault card i ≡ (isSet (b .zero) || b .anchored && (isSet (b .dominance) || isSet (b .locks)))
-  unfolding bodyBitsFault bodyBits
-  body-unused =
-      let a = bodyBits card i in
-      rw e (by-cases (isSet (a .zero)) (a .anchored) (isSet (a .dominance)) (isSet (a .locks)))
-    where
-      by-cases : (zero anchored dominance locks : Bool)
-          → ((zero || not (not anchored) && dominance) || not (not anchored) && locks || false) ≡ (zero || anchored && (dominance || locks))
-      by-cases true true dominance locks = refl
-      by-cases true false dominance locks = refl
-      by-cases false true true locks = refl
-      by-cases false true false locks = simp or-false
-      by-cases false false dominance locks = refl
+-- two tests that agree on each record that passes a third
+pub any-agree : (p q r : List ℕ → Bool) → ((ns : List ℕ) → p ns ≡ false → q ns ≡ r ns) → (l : List (List ℕ)) → any p l ≡ false → any q l ≡ any r l
+unfolding any
+any-agree p q r h [] e = refl
+any-agree p q r h (x ∷ l) e = rw (h x (or-left (p x) (any p l) e), any-agree p q r h l (or-right (p x) (any p l) e))

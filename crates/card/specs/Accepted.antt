@@ -1,36 +1,53 @@
 -- What a card that no check refuses has, as far as proofs read it: proofs/Accepted.antt shows it from checkOf card ≡ 0.
 use Prim.Native.Nat.{ℕ, _+_, _*_, _≤_, _<_}
 use mathlib.Core.Path.{_≡_}
-use mathlib.Core.List.{List}
-use lib.ListN.{length}
+use mathlib.Core.List.{List, [], map}
+use lib.ListN.{length, getD}
 use lib.Dec.{T}
-use lib.Ieee.{Float, binary32, fits, le}
+use lib.Ieee.{Float, binary32, fits, le, neg}
 use lib.Ieee.Scale.{finite}
-use Rattle.card.specs.Layout.{maxBodies, maxJoints, minRate, maxRate, jointPlace, bodyFloats, jointFloats, bodyFloatCount, jointFloatCount}
-use Rattle.card.specs.Bits.{floatAt}
-use Rattle.card.specs.Fields.{floatOf, least}
-use Rattle.card.specs.Records.{headerAt, bodyBits, jointBits}
-use Rattle.card.specs.declared.fields.Range.{Range}
-use Rattle.card.specs.declared.fields.Form.the-variants.{BodyForm, JointForm}
+use Rattle.scalar.specs.Arith.{f32, f0}
+use Rattle.card.specs.Format.{Range}
+use Rattle.card.specs.Format.{Any, Bounded, NotNegative, Cap}
+use Rattle.card.specs.Format.{bitsAt, bound, Cell, widthOf}
+use Rattle.card.specs.Card.{at, body, kinds, Edition, editions, editionAt, Card, cardOf}
 
--- a finite f32, not below its range
-pub record InRange (r : Range) (x : Float) : Type 0 where
+-- a finite f32, not below another
+pub record Real (low x : Float) : Type 0 where
   pub held : T (fits binary32 x) × T (finite x)
-  pub low : T (le (least r) x)
+  pub above : T (le low x)
 
-pub record AcceptedBody (card : List ℕ) (i : ℕ) : Type 0 where
-  pub floats : (n : ℕ) → n < bodyFloatCount → InRange (floatOf (BodyForm (bodyBits card i)) n .range) (floatAt card (bodyFloats i + 4 * n))
+abbrev pub In : Range → ℕ → Type 0
+In Any n = Unit
+In Bounded n = Real (neg bound) (f32 n)
+In NotNegative n = Real f0 (f32 n)
+In Cap n = Real f0 (f32 n)
 
-pub record AcceptedJoint (card : List ℕ) (bodies j : ℕ) : Type 0 where
-  pub floats : (n : ℕ) → n < jointFloatCount → InRange (floatOf (JointForm (jointBits card bodies j)) n .range) (floatAt card (jointFloats bodies j + 4 * n))
-  pub body1 : jointBits card bodies j .body1 < bodies
-  pub body2 : jointBits card bodies j .body2 < bodies
+abbrev pub rangeAt : List Cell → ℕ → Range
+rangeAt cs k = getD (map (λ c. c .range) cs) k Any
+
+-- each number of a record is in the range of its cell
+abbrev pub Ranged : List Cell → List ℕ → Type 0
+Ranged cs ns = (k : ℕ) → In (rangeAt cs k) (at k ns)
+
+pub record AcceptedJoint (cs : List Cell) (bodies : ℕ) (j : List ℕ) : Type 0 where
+  pub ranged : Ranged cs j
+  pub kind : at 0 j < length kinds
+  pub body1 : at 1 j < bodies
+  pub body2 : at 2 j < bodies
+
+pub record AcceptedCard (e : Edition) (c : Card) : Type 0 where
+  pub bodies : length (c .bodies) ≡ at 1 (c .header)
+  pub joints : length (c .joints) ≡ at 2 (c .header)
+  pub few-bodies : at 1 (c .header) ≤ e .most
+  pub few-joints : at 2 (c .header) ≤ e .most
+  pub least-rate : 16 ≤ at 3 (c .header)
+  pub most-rate : at 3 (c .header) ≤ e .fastest
+  pub header : Ranged (e .header) (c .header)
+  pub body : (i : ℕ) → i < length (c .bodies) → Ranged body (getD (c .bodies) i [])
+  pub joint : (i : ℕ) → i < length (c .joints) → AcceptedJoint (e .joint) (length (c .bodies)) (getD (c .joints) i [])
 
 pub record Accepted (card : List ℕ) : Type 0 where
-  pub few-bodies : headerAt card .bodies ≤ maxBodies
-  pub few-joints : headerAt card .joints ≤ maxJoints
-  pub least-rate : minRate ≤ headerAt card .rate
-  pub most-rate : headerAt card .rate ≤ maxRate
-  pub whole : length card ≡ jointPlace (headerAt card .bodies) (headerAt card .joints)
-  pub body : (i : ℕ) → i < headerAt card .bodies → AcceptedBody card i
-  pub joint : (j : ℕ) → j < headerAt card .joints → AcceptedJoint card (headerAt card .bodies) j
+  pub edition : (1 ≤ bitsAt card 0 8) × (bitsAt card 0 8 ≤ length editions)
+  pub enough : widthOf (editionAt card .header) + widthOf body * at 1 (cardOf card .header) + widthOf (editionAt card .joint) * at 2 (cardOf card .header) ≤ 8 * length card
+  pub has : AcceptedCard (editionAt card) (cardOf card)

@@ -1,126 +1,140 @@
-// Refusals 1 to 10: each check over the whole card before the next.
+// Refusals 1 to 10. The records are looked at once, each for all that is checked of it; the answer is the first check that a record fails.
 ghost use mathlib.Core.Path.{_≡_};
 ghost use Prim.Native.Nat.{_+_, _*_, _≤_, _<_};
 ghost use lib.ListN.{length};
-ghost use Rattle.card.specs.Layout.{headerBytes, bodyBytes, jointBytes, bodyPlace, jointPlace, jointFloatCount};
-ghost use Rattle.card.specs.Loop.{anyTo};
+ghost use Rattle.vector.specs.Vector.{lengthSquaredOf};
+ghost use Rattle.vector.specs.Rotation.{normSquaredOf};
+ghost use Rattle.card.specs.Format.{numbersAt, recordsAt};
+ghost use Rattle.card.specs.Card.{body};
 ghost use Rattle.card.specs.Answer.{numberOf};
-ghost use Rattle.card.specs.Checks.{countsFault, rateFault, bodyBitsFault, bitsFit, jointBitsFault, limitFault, offUnit, axisFault, rotationFault, basesFault, normsFault, pairFault, headerFault, bodyFault, jointFault, recordFault, checkOf};
+ghost use Rattle.card.specs.Checks.{any, offUnit, wrongPair, firstOf, recordChecks, checkOf};
+ghost use Rattle.card.specs.Parts.{header1, joint1, row1, card1, countsFault, rateFault, anyTo, setAt, outsideAt, orFaults, fieldFaults, headerFaults, bodyFaults, jointFaults, faultsOf, limitAt, normsAt, pairOf};
 use crate::answer::Answer;
+use crate::bits::bits8_at;
+use crate::bits::bits32_at;
 use crate::bits::float_at;
 use crate::bits::quat_at;
 use crate::bits::vec3_at;
-use crate::fields::JointKind;
-use crate::fields::kind_of;
-use crate::float_checks::FloatCheck;
-use crate::float_checks::body_floats_fault;
-use crate::float_checks::header_floats_fault;
-use crate::float_checks::joint_floats_fault;
+use crate::kinds::kind_of;
+use crate::layout::ANCHOR1;
 use crate::layout::AXIS;
 use crate::layout::BASIS1;
 use crate::layout::BASIS2;
+use crate::layout::BODY_BYTES;
+use crate::layout::BOUND;
+use crate::layout::COMPLIANCES;
+use crate::layout::FASTEST;
+use crate::layout::GRAVITY;
 use crate::layout::HEADER_BYTES;
+use crate::layout::INV_INERTIA;
+use crate::layout::INV_MASS;
+use crate::layout::JOINT_BYTES;
 use crate::layout::LIMIT1;
 use crate::layout::LIMIT2;
-use crate::layout::MAX_BODIES;
-use crate::layout::MAX_JOINTS;
-use crate::layout::MAX_RATE;
-use crate::layout::MIN_RATE;
+use crate::layout::LINEAR_VELOCITY;
+use crate::layout::MOST;
+use crate::layout::MOTOR;
+use crate::layout::POSITION;
 use crate::layout::ROTATION;
-use crate::layout::body_floats;
-use crate::layout::joint_floats;
-use crate::layout::joint_place;
-use crate::records::JointBits;
+use crate::layout::SLOWEST;
+use crate::layout::WARM_COEFFICIENT;
 use crate::records::body_bits;
-use crate::records::header_at;
+use crate::records::header_bits;
 use crate::records::joint_bits;
+use scalar::MAX;
 use scalar::outside;
 use vector::Quat;
 use vector::Vec3;
 
-// The checks 6 to 10, which look at every record.
-pub enum RecordCheck {
-    Bits,
-    Floats,
-    Limits,
-    Norms,
-    Bodies,
-}
-
-fn counts_fault(bodies: usize, joints: usize) -> bool
-    ensures { λ r. ⌜ r ≡ countsFault bodies joints ⌝ }
+// Whether a bit of so many floats is set.
+fn any_set(part: &[u8], at: usize, count: usize) -> bool
+    requires { ⌜ at + 4 * count ≤ length (now part) ⌝ }
+    ensures { λ r. ⌜ r ≡ anyTo (setAt (now (part .entry)) at) count ⌝ }
 {
-    if bodies == 0 {
-        return true;
-    }
-    if MAX_BODIES < bodies {
-        return true;
-    }
-    MAX_JOINTS < joints
-}
-
-fn rate_fault(rate: u32) -> bool
-    ensures { λ r. ⌜ r ≡ rateFault rate ⌝ }
-{
-    if rate < MIN_RATE {
-        return true;
-    }
-    MAX_RATE < rate
-}
-
-fn body_bits_fault(card: &[u8], i: usize) -> bool
-    requires { ⌜ bodyPlace i + bodyBytes ≤ length (now card) ⌝ }
-    ensures { λ r. ⌜ r ≡ bodyBitsFault (now (card .entry)) i ⌝ }
-{
-    let b = body_bits(card, i);
-    if b.zero != 0 {
-        return true;
-    }
-    if b.anchored {
-        if b.dominance != 0 {
+    let mut n = 0;
+    while n < count {
+        if bits32_at(part, at + 4 * n) != 0 {
             return true;
         }
-        return b.locks != 0;
+        n += 1;
     }
     false
 }
 
-// Whether the kind is known and has such limits and such a motor.
-fn bits_fit(kind: JointKind, b: JointBits) -> bool
-    ensures { λ r. ⌜ r ≡ bitsFit kind b ⌝ }
+// Whether one of so many floats is out of bounds.
+fn any_outside(part: &[u8], low: f32, high: f32, at: usize, count: usize) -> bool
+    requires { ⌜ at + 4 * count ≤ length (now part) ⌝ }
+    ensures { λ r. ⌜ r ≡ anyTo (outsideAt (now (part .entry)) low high at) count ⌝ }
 {
-    let may_first = kind.first;
-    let may_second = kind.second;
-    let may_motor = kind.motor;
-    if kind.known {
-        if may_first.allows(b.first) {
-            if may_second.allows(b.second) {
-                return may_motor.allows(b.motor != 0);
-            }
-            return false;
+    let mut n = 0;
+    while n < count {
+        if outside(float_at(part, at + 4 * n), low, high) {
+            return true;
         }
-        return false;
+        n += 1;
     }
     false
 }
 
-fn joint_bits_fault(card: &[u8], bodies: usize, j: usize) -> bool
-    requires { ⌜ jointPlace bodies j + jointBytes ≤ length (now card) ⌝ }
-    ensures { λ r. ⌜ r ≡ jointBitsFault (now (card .entry)) bodies j ⌝ }
-{
-    let b = joint_bits(card, bodies, j);
-    if b.zero != 0 {
-        return true;
-    }
-    !bits_fit(kind_of(b.kind), b)
+// Which of the checks 6 to 9 a record fails, or one of several records.
+pub struct Faults {
+    // 6
+    pub bits: bool,
+    // 7
+    pub floats: bool,
+    // 8
+    pub limits: bool,
+    // 9
+    pub norms: bool,
 }
 
-// Whether the min at a place is above the max behind it.
-fn limit_fault(card: &[u8], at: usize) -> bool
-    requires { ⌜ at + 8 ≤ length (now card) ⌝ }
-    ensures { λ r. ⌜ r ≡ limitFault (now (card .entry)) at ⌝ }
+impl Faults {
+    fn or(self, other: Faults) -> Faults
+        ensures { λ r. ⌜ r ≡ orFaults self other ⌝ }
+    {
+        Faults {
+            bits: self.bits | other.bits,
+            floats: self.floats | other.floats,
+            limits: self.limits | other.limits,
+            norms: self.norms | other.norms,
+        }
+    }
+
+    // With the faults of so many floats, which have use or not, and bounds. Without use a float is zero, and so in bounds, or it is refused by 6 before 7.
+    fn field(self, part: &[u8], used: bool, low: f32, high: f32, at: usize, count: usize) -> Faults
+        requires { ⌜ at + 4 * count ≤ length (now part) ⌝ }
+        ensures { λ r. ⌜ r ≡ fieldFaults self (now (part .entry)) used low high at count ⌝ }
+    {
+        if used {
+            return Faults {
+                bits: self.bits,
+                floats: self.floats | any_outside(part, low, high, at, count),
+                limits: self.limits,
+                norms: self.norms,
+            };
+        }
+        Faults {
+            bits: self.bits | any_set(part, at, count),
+            floats: self.floats,
+            limits: self.limits,
+            norms: self.norms,
+        }
+    }
+}
+
+fn header_faults(part: &[u8]) -> Faults
+    requires { ⌜ 12 ≤ length (now part) ⌝ }
+    ensures { λ r. ⌜ r ≡ headerFaults (numbersAt header1 (now (part .entry)) 0) ⌝ }
 {
-    float_at(card, at) > float_at(card, at + 4)
+    let h = header_bits(part);
+    let f = Faults {
+        bits: h.zero != 0,
+        floats: false,
+        limits: false,
+        norms: false,
+    };
+    f.field(part, true, -BOUND, BOUND, GRAVITY, 1)
+        .field(part, true, 0.0, BOUND, WARM_COEFFICIENT, 1)
 }
 
 // Whether a sum of squares is outside 1 ± 2^-10.
@@ -131,46 +145,142 @@ fn off_unit(s: f32) -> bool
 }
 
 fn axis_fault(v: Vec3) -> bool
-    ensures { λ r. ⌜ r ≡ axisFault v ⌝ }
+    ensures { λ r. ⌜ r ≡ offUnit (lengthSquaredOf v) ⌝ }
 {
     off_unit(v.length_squared())
 }
 
 fn rotation_fault(q: Quat) -> bool
-    ensures { λ r. ⌜ r ≡ rotationFault q ⌝ }
+    ensures { λ r. ⌜ r ≡ offUnit (normSquaredOf q) ⌝ }
 {
     off_unit(q.length_squared())
 }
 
-fn bases_fault(card: &[u8], used: bool, floats: usize) -> bool
-    requires { ⌜ floats + 4 * jointFloatCount ≤ length (now card) ⌝ }
-    ensures { λ r. ⌜ r ≡ basesFault (now (card .entry)) used floats ⌝ }
+fn body_faults(part: &[u8]) -> Faults
+    requires { ⌜ 94 ≤ length (now part) ⌝ }
+    ensures { λ r. ⌜ r ≡ bodyFaults (numbersAt body (now (part .entry)) 0) ⌝ }
 {
-    if used {
-        if rotation_fault(quat_at(card, floats + 4 * BASIS1)) {
-            return true;
-        }
-        return rotation_fault(quat_at(card, floats + 4 * BASIS2));
+    let b = body_bits(part);
+    let moving = !b.anchored;
+    let locked = (b.lock_x != 0) | (b.lock_y != 0) | (b.lock_z != 0);
+    let f = Faults {
+        bits: b.anchored & (locked | (b.dominance != 0)) | (b.zero != 0),
+        floats: false,
+        limits: false,
+        norms: false,
+    };
+    let g = f.field(part, true, -BOUND, BOUND, POSITION, 10)
+        .field(part, moving, -BOUND, BOUND, LINEAR_VELOCITY, 6)
+        .field(part, moving, 0.0, BOUND, INV_MASS, 1)
+        .field(part, moving, -BOUND, BOUND, INV_INERTIA, 6);
+    Faults {
+        bits: g.bits,
+        floats: g.floats,
+        limits: false,
+        norms: rotation_fault(quat_at(part, ROTATION)),
     }
-    false
 }
 
-fn norms_fault(card: &[u8], kind: JointKind, floats: usize) -> bool
-    requires { ⌜ floats + 4 * jointFloatCount ≤ length (now card) ⌝ }
-    ensures { λ r. ⌜ r ≡ normsFault (now (card .entry)) kind floats ⌝ }
+// Whether the min at a place is above the max behind it.
+fn limit_fault(part: &[u8], at: usize) -> bool
+    requires { ⌜ at + 8 ≤ length (now part) ⌝ }
+    ensures { λ r. ⌜ r ≡ limitAt (now (part .entry)) at ⌝ }
 {
-    if bases_fault(card, kind.bases, floats) {
-        return true;
-    }
-    if kind.axis {
-        return axis_fault(vec3_at(card, floats + 4 * AXIS));
-    }
-    false
+    float_at(part, at) > float_at(part, at + 4)
 }
 
-fn pair_fault(card: &[u8], bodies: usize, a: usize, b: usize) -> bool
-    requires { ⌜ bodyPlace bodies ≤ length (now card) ⌝ }
-    ensures { λ r. ⌜ r ≡ pairFault (now (card .entry)) bodies a b ⌝ }
+fn norms_fault(part: &[u8], bases: bool, axis: bool) -> bool
+    requires { ⌜ 123 ≤ length (now part) ⌝ }
+    ensures { λ r. ⌜ r ≡ normsAt (now (part .entry)) bases axis ⌝ }
+{
+    let first = rotation_fault(quat_at(part, BASIS1));
+    let second = rotation_fault(quat_at(part, BASIS2));
+    bases & (first | second) | axis & axis_fault(vec3_at(part, AXIS))
+}
+
+fn joint_faults(part: &[u8]) -> Faults
+    requires { ⌜ 123 ≤ length (now part) ⌝ }
+    ensures { λ r. ⌜ r ≡ jointFaults (numbersAt joint1 (now (part .entry)) 0) ⌝ }
+{
+    let b = joint_bits(part);
+    let motor = b.motor != 0;
+    let kind = kind_of(b.kind, b.first, b.second, motor);
+    let many = kind.compliances;
+    let f = Faults {
+        bits: b.zero != 0,
+        floats: false,
+        limits: false,
+        norms: false,
+    };
+    let g = f.field(part, true, -BOUND, BOUND, ANCHOR1, 6)
+        .field(part, kind.bases, -BOUND, BOUND, BASIS1, 8)
+        .field(part, kind.axis, -BOUND, BOUND, AXIS, 3)
+        .field(part, 0 < many, 0.0, BOUND, COMPLIANCES, 1)
+        .field(part, 1 < many, 0.0, BOUND, COMPLIANCES + 4, 1)
+        .field(part, 2 < many, 0.0, BOUND, COMPLIANCES + 8, 1)
+        .field(part, 3 < many, 0.0, BOUND, COMPLIANCES + 12, 1)
+        .field(part, b.first, -BOUND, BOUND, LIMIT1, 2)
+        .field(part, b.second, -BOUND, BOUND, LIMIT2, 2)
+        // target velocity and position, cap, two model floats
+        .field(part, motor, -BOUND, BOUND, MOTOR, 2)
+        .field(part, motor, 0.0, MAX, MOTOR + 8, 1)
+        .field(part, motor, -BOUND, BOUND, MOTOR + 12, 2);
+    Faults {
+        bits: g.bits | !kind.fits,
+        floats: g.floats,
+        limits: limit_fault(part, LIMIT1) | limit_fault(part, LIMIT2),
+        norms: norms_fault(part, kind.bases, kind.axis),
+    }
+}
+
+// Of so many bodies from `at` on.
+fn bodies_faults(card: &[u8], at: usize, count: usize) -> Faults
+    requires { ⌜ at + 94 * count ≤ length (now card) ⌝ }
+    ensures { λ r. ⌜ r ≡ faultsOf bodyFaults (recordsAt body (now (card .entry)) (8 * at) count) ⌝ }
+{
+    let mut f = Faults {
+        bits: false,
+        floats: false,
+        limits: false,
+        norms: false,
+    };
+    let mut from = at;
+    let mut left = count;
+    while 0 < left {
+        let end = from + BODY_BYTES;
+        f = f.or(body_faults(&card[from..end]));
+        from = end;
+        left -= 1;
+    }
+    f
+}
+
+// Of so many joints from `at` on.
+fn joints_faults(card: &[u8], at: usize, count: usize) -> Faults
+    requires { ⌜ at + 123 * count ≤ length (now card) ⌝ }
+    ensures { λ r. ⌜ r ≡ faultsOf jointFaults (recordsAt joint1 (now (card .entry)) (8 * at) count) ⌝ }
+{
+    let mut f = Faults {
+        bits: false,
+        floats: false,
+        limits: false,
+        norms: false,
+    };
+    let mut from = at;
+    let mut left = count;
+    while 0 < left {
+        let end = from + JOINT_BYTES;
+        f = f.or(joint_faults(&card[from..end]));
+        from = end;
+        left -= 1;
+    }
+    f
+}
+
+// A missing body, one body twice, or two anchored ones; the bodies begin at a place.
+fn pair_fault(card: &[u8], at: usize, bodies: usize, a: usize, b: usize) -> bool
+    requires { ⌜ at + 94 * bodies ≤ length (now card) ⌝ }
+    ensures { λ r. ⌜ r ≡ wrongPair (recordsAt body (now (card .entry)) (8 * at) bodies) a b ⌝ }
 {
     if bodies <= a {
         return true;
@@ -181,110 +291,71 @@ fn pair_fault(card: &[u8], bodies: usize, a: usize, b: usize) -> bool
     if a == b {
         return true;
     }
-    if body_bits(card, a).anchored {
-        return body_bits(card, b).anchored;
-    }
-    false
+    let at_a = at + BODY_BYTES * a;
+    let at_b = at + BODY_BYTES * b;
+    let anchored_a = body_bits(&card[at_a..at_a + BODY_BYTES]).anchored;
+    let anchored_b = body_bits(&card[at_b..at_b + BODY_BYTES]).anchored;
+    anchored_a & anchored_b
 }
 
-fn header_fault(card: &[u8], k: RecordCheck) -> bool
-    requires { ⌜ headerBytes ≤ length (now card) ⌝ }
-    ensures { λ r. ⌜ r ≡ headerFault (now (card .entry)) k ⌝ }
+// Whether one of so many joints from `from` on names its bodies wrongly.
+fn any_pair_fault(card: &[u8], at: usize, bodies: usize, first: usize, joints: usize) -> bool
+    requires { ⌜ (at + 94 * bodies ≤ length (now card)) × (first + 123 * joints ≤ length (now card)) ⌝ }
+    ensures { λ r. ⌜ r ≡ any (pairOf (recordsAt body (now (card .entry)) (8 * at) bodies)) (recordsAt joint1 (now (card .entry)) (8 * first) joints) ⌝ }
 {
-    match k {
-        RecordCheck::Bits => header_at(card).zero != 0,
-        RecordCheck::Floats => header_floats_fault(card, FloatCheck::Outside),
-        RecordCheck::Limits => false,
-        RecordCheck::Norms => false,
-        RecordCheck::Bodies => false,
-    }
-}
-
-fn body_fault(card: &[u8], k: RecordCheck, i: usize) -> bool
-    requires { ⌜ bodyPlace i + bodyBytes ≤ length (now card) ⌝ }
-    ensures { λ r. ⌜ r ≡ bodyFault (now (card .entry)) k i ⌝ }
-{
-    let floats = body_floats(i);
-    match k {
-        RecordCheck::Bits => {
-            if body_bits_fault(card, i) {
-                return true;
-            }
-            body_floats_fault(card, FloatCheck::Unused, body_bits(card, i), floats)
-        }
-        RecordCheck::Floats => {
-            body_floats_fault(card, FloatCheck::Outside, body_bits(card, i), floats)
-        }
-        RecordCheck::Limits => false,
-        RecordCheck::Norms => rotation_fault(quat_at(card, floats + 4 * ROTATION)),
-        RecordCheck::Bodies => false,
-    }
-}
-
-fn any_body(card: &[u8], k: RecordCheck, bodies: usize) -> bool
-    requires { ⌜ bodyPlace bodies ≤ length (now card) ⌝ }
-    ensures { λ r. ⌜ r ≡ anyTo (bodyFault (now (card .entry)) k) bodies ⌝ }
-{
-    let mut i = 0;
-    while i < bodies {
-        if body_fault(card, k, i) {
+    let mut from = first;
+    let mut left = joints;
+    while 0 < left {
+        let end = from + JOINT_BYTES;
+        let b = joint_bits(&card[from..end]);
+        if pair_fault(card, at, bodies, b.body1, b.body2) {
             return true;
         }
-        i += 1;
+        from = end;
+        left -= 1;
     }
     false
 }
 
-fn joint_fault(card: &[u8], bodies: usize, k: RecordCheck, j: usize) -> bool
-    requires { ⌜ jointPlace bodies j + jointBytes ≤ length (now card) ⌝ }
-    ensures { λ r. ⌜ r ≡ jointFault (now (card .entry)) bodies k j ⌝ }
+// No bodies, or too many bodies or joints.
+fn counts_fault(bodies: usize, joints: usize) -> bool
+    ensures { λ r. ⌜ r ≡ countsFault bodies joints ⌝ }
 {
-    let floats = joint_floats(bodies, j);
-    let b = joint_bits(card, bodies, j);
-    match k {
-        RecordCheck::Bits => {
-            if joint_bits_fault(card, bodies, j) {
-                return true;
-            }
-            joint_floats_fault(card, FloatCheck::Unused, b, floats)
-        }
-        RecordCheck::Floats => joint_floats_fault(card, FloatCheck::Outside, b, floats),
-        RecordCheck::Limits => {
-            if limit_fault(card, floats + 4 * LIMIT1) {
-                return true;
-            }
-            limit_fault(card, floats + 4 * LIMIT2)
-        }
-        RecordCheck::Norms => norms_fault(card, kind_of(b.kind), floats),
-        RecordCheck::Bodies => pair_fault(card, bodies, b.body1, b.body2),
-    }
+    (bodies == 0) | (MOST < bodies) | (MOST < joints)
 }
 
-fn any_joint(card: &[u8], bodies: usize, k: RecordCheck, joints: usize) -> bool
-    requires { ⌜ jointPlace bodies joints ≤ length (now card) ⌝ }
-    ensures { λ r. ⌜ r ≡ anyTo (jointFault (now (card .entry)) bodies k) joints ⌝ }
+fn rate_fault(rate: u32) -> bool
+    ensures { λ r. ⌜ r ≡ rateFault rate ⌝ }
 {
-    let mut j = 0;
-    while j < joints {
-        if joint_fault(card, bodies, k, j) {
-            return true;
-        }
-        j += 1;
-    }
-    false
+    (rate < SLOWEST) | (FASTEST < rate)
 }
 
-fn record_fault(card: &[u8], bodies: usize, joints: usize, k: RecordCheck) -> bool
-    requires { ⌜ jointPlace bodies joints ≤ length (now card) ⌝ }
-    ensures { λ r. ⌜ r ≡ recordFault (now (card .entry)) bodies joints k ⌝ }
+// Checks 6 to 10, of a card with so many bodies and joints.
+fn check_records(card: &[u8], bodies: usize, joints: usize) -> Answer
+    requires { ⌜ length (now card) ≡ 12 + 94 * bodies + 123 * joints ⌝ }
+    ensures { λ r. ⌜ numberOf r ≡ firstOf (recordChecks row1 (card1 (now (card .entry)) bodies joints)) ⌝ }
 {
-    if header_fault(card, k) {
-        return true;
+    let at = HEADER_BYTES;
+    let first = HEADER_BYTES + BODY_BYTES * bodies;
+    let h = header_faults(card);
+    let b = bodies_faults(card, at, bodies);
+    let j = joints_faults(card, first, joints);
+    if h.bits | b.bits | j.bits {
+        return Answer::UnusedBits;
     }
-    if any_body(card, k, bodies) {
-        return true;
+    if h.floats | b.floats | j.floats {
+        return Answer::FloatOutOfRange;
     }
-    any_joint(card, bodies, k, joints)
+    if j.limits {
+        return Answer::LimitOrder;
+    }
+    if b.norms | j.norms {
+        return Answer::NotUnit;
+    }
+    if any_pair_fault(card, at, bodies, first, joints) {
+        return Answer::WrongBodies;
+    }
+    Answer::Done
 }
 
 // The first of the refusals 1 to 10 that applies to the card.
@@ -294,10 +365,10 @@ pub fn check(card: &[u8]) -> Answer
     if card.len() < HEADER_BYTES {
         return Answer::ShortCard;
     }
-    let h = header_at(card);
-    if h.edition != 1 {
+    if bits8_at(card, 0) != 1 {
         return Answer::WrongEdition;
     }
+    let h = header_bits(card);
     let bodies = h.bodies;
     let joints = h.joints;
     if counts_fault(bodies, joints) {
@@ -306,23 +377,8 @@ pub fn check(card: &[u8]) -> Answer
     if rate_fault(h.rate) {
         return Answer::WrongRate;
     }
-    if card.len() != joint_place(bodies, joints) {
+    if card.len() != HEADER_BYTES + BODY_BYTES * bodies + JOINT_BYTES * joints {
         return Answer::WrongLength;
     }
-    if record_fault(card, bodies, joints, RecordCheck::Bits) {
-        return Answer::UnusedBits;
-    }
-    if record_fault(card, bodies, joints, RecordCheck::Floats) {
-        return Answer::FloatOutOfRange;
-    }
-    if record_fault(card, bodies, joints, RecordCheck::Limits) {
-        return Answer::LimitOrder;
-    }
-    if record_fault(card, bodies, joints, RecordCheck::Norms) {
-        return Answer::NotUnit;
-    }
-    if record_fault(card, bodies, joints, RecordCheck::Bodies) {
-        return Answer::WrongBodies;
-    }
-    Answer::Done
+    check_records(card, bodies, joints)
 }

@@ -1,34 +1,27 @@
-// The header, and the numbers that a body and a joint begin with.
+// The numbers that each record begins with.
 ghost use mathlib.Core.Path.{_≡_};
-ghost use Prim.Native.Nat.{_+_, _≤_};
+ghost use Prim.Native.Nat.{_≤_};
 ghost use lib.ListN.{length};
-ghost use Rattle.card.specs.Layout.{maxRate, headerBytes, bodyPlace, jointPlace};
-ghost use Rattle.card.specs.Records.{headerAt, bodyBits, jointBits, dtOf};
+ghost use Rattle.card.specs.Format.{numbersAt};
+ghost use Rattle.card.specs.Card.{body};
+ghost use Rattle.card.specs.Parts.{header1, joint1, headerBits, bodyBits, jointBits};
 use crate::bits::bits16_at;
 use crate::bits::bits24_at;
 use crate::bits::bits32_at;
-use crate::bits::float_at;
-use crate::layout::HEADER_BITS;
-use crate::layout::WARM_COEFFICIENT;
-use crate::layout::body_place;
-use crate::layout::joint_place;
 
-pub struct Header {
-    pub edition: u32,
+pub struct HeaderBits {
     pub bodies: usize,
     pub joints: usize,
     // Ticks in a second.
     pub rate: u32,
     pub zero: u32,
-    // Along y.
-    pub gravity: f32,
-    pub warm_coefficient: f32,
 }
 
 pub struct BodyBits {
     pub anchored: bool,
-    // x, y, z, the first highest.
-    pub locks: u32,
+    pub lock_x: u32,
+    pub lock_y: u32,
+    pub lock_z: u32,
     // Eight bits, still without their sign.
     pub dominance: u32,
     pub zero: u32,
@@ -46,50 +39,39 @@ pub struct JointBits {
     pub zero: u32,
 }
 
-pub fn header_at(card: &[u8]) -> Header
-    requires { ⌜ headerBytes ≤ length (now card) ⌝ }
-    ensures { λ r. ⌜ r ≡ headerAt (now (card .entry)) ⌝ }
+pub fn header_bits(part: &[u8]) -> HeaderBits
+    requires { ⌜ 4 ≤ length (now part) ⌝ }
+    ensures { λ r. ⌜ r ≡ headerBits (numbersAt header1 (now (part .entry)) 0) ⌝ }
 {
-    let b = bits32_at(card, 0);
-    Header {
-        edition: b / 0x0100_0000 % 0x100,
+    let b = bits32_at(part, 0);
+    HeaderBits {
         bodies: (b / 0x0004_0000 % 0x40) as usize,
         joints: (b / 0x1000 % 0x40) as usize,
         rate: b / 4 % 0x400,
         zero: b / 1 % 4,
-        gravity: float_at(card, HEADER_BITS),
-        warm_coefficient: float_at(card, HEADER_BITS + 4 * WARM_COEFFICIENT),
     }
 }
 
-impl Header {
-    // A tick's time.
-    pub fn dt(self) -> f32
-        requires { ⌜ self .rate ≤ maxRate ⌝ }
-        ensures { λ r. ⌜ r ≡ dtOf self ⌝ }
-    {
-        1.0 / self.rate as f32
-    }
-}
-
-pub fn body_bits(card: &[u8], i: usize) -> BodyBits
-    requires { ⌜ bodyPlace i + 2 ≤ length (now card) ⌝ }
-    ensures { λ r. ⌜ r ≡ bodyBits (now (card .entry)) i ⌝ }
+pub fn body_bits(part: &[u8]) -> BodyBits
+    requires { ⌜ 2 ≤ length (now part) ⌝ }
+    ensures { λ r. ⌜ r ≡ bodyBits (numbersAt body (now (part .entry)) 0) ⌝ }
 {
-    let b = bits16_at(card, body_place(i));
+    let b = bits16_at(part, 0);
     BodyBits {
         anchored: b / 0x8000 % 2 == 1,
-        locks: b / 0x1000 % 8,
+        lock_x: b / 0x4000 % 2,
+        lock_y: b / 0x2000 % 2,
+        lock_z: b / 0x1000 % 2,
         dominance: b / 0x10 % 0x100,
         zero: b / 1 % 0x10,
     }
 }
 
-pub fn joint_bits(card: &[u8], bodies: usize, j: usize) -> JointBits
-    requires { ⌜ jointPlace bodies j + 3 ≤ length (now card) ⌝ }
-    ensures { λ r. ⌜ r ≡ jointBits (now (card .entry)) bodies j ⌝ }
+pub fn joint_bits(part: &[u8]) -> JointBits
+    requires { ⌜ 3 ≤ length (now part) ⌝ }
+    ensures { λ r. ⌜ r ≡ jointBits (numbersAt joint1 (now (part .entry)) 0) ⌝ }
 {
-    let b = bits24_at(card, joint_place(bodies, j));
+    let b = bits24_at(part, 0);
     JointBits {
         kind: b / 0x0020_0000 % 8,
         body1: (b / 0x0001_0000 % 0x20) as usize,

@@ -1,150 +1,111 @@
 -- After every list of calls an anchored body's 13 numbers are the card's.
-use Prim.Native.Nat.{ℕ, suc, _+_, _-_, _*_, _≤_, _<_}
-use native.Mathlib.Nat.{lt-of-not-le}
-use native.Mathlib.Omega.{arith}
-use native.Mathlib.Decide.{decLe}
-use mathlib.Core.Path.{_≡_, refl, sym, ap, _∙_, subst}
-use mathlib.Core.Logic.{_⊎_, inl, inr}
-use mathlib.Core.Bool.{Bool, true, false, not}
-use mathlib.Core.List.{List, [], _∷_, List·Memᴰ, List·Memᴰ·head, List·Memᴰ·tail}
-use lib.ListN.{length, getD, take, drop, set}
-use lib.Seq.{sets, take-set-le, drop-set-lt, drop-set-add}
-use lib.Dec.{T, T-not, eqb}
+use Prim.Native.Nat.{ℕ, _<_}
+use mathlib.Core.Path.{_≡_, refl, ap, _∙_}
+use mathlib.Core.Logic.{inl, inr}
+use mathlib.Core.Bool.{Bool, true, false}
+use mathlib.Core.List.{List, [], _∷_, map, List·Memᴰ, List·Memᴰ·head, List·Memᴰ·tail}
+use lib.ListN.{length, getD, length-map, List·getD-map}
+use lib.Dec.{T, eqb}
 use lib.Ieee.{Float}
+use borrow.Author.Tests.{ne-eqb}
 use Rattle.scalar.specs.Arith.{if_then_else_}
+use Rattle.solver_body.specs.declared.BodyState.{BodyState}
 use Rattle.xpbd_plugin.specs.Joint.{noTotals}
 use Rattle.stages.proofs.Choice.{either}
-use Rattle.card.specs.Layout.{totalsPlace}
-use Rattle.card.specs.Loop.{anyTo}
-use Rattle.card.specs.Records.{headerAt, bodyBits}
-use Rattle.card.specs.Checks.{checkOf}
-use Rattle.card_records.specs.State.{numbersOf, lengthFault, startState, checkStateOf, Answered, answered, startAccepted, startOf}
-use Rattle.card.specs.declared.records.Header.{Header}
-use Rattle.table.specs.Loop.{after}
-use Rattle.table.specs.Tick.{Solved, totalsNumbers, newBody, newFault, storeBody, storeTotals, stored, before, finished, tickAccepted}
-use Rattle.table.specs.Run.{tickOf, tickNext, runOf}
-use Rattle.demand.specs.Demand.{Call, start, tick, ticks, bytesOf, leaves, afterCalls, CardOrRefused, AnchoredKept}
-use Rattle.card_records.proofs.Starting.{start-refused}
-use Rattle.card_records.proofs.StartState.{start-body}
-use Rattle.table.proofs.Loops.{after-all}
-use Rattle.table.proofs.Ticking.{tick-refused}
+use Rattle.numbers.specs.Lists.{each, after}
+use Rattle.numbers.proofs.Loops.{after-all}
+use Rattle.numbers.proofs.Rows.{each-length, each-at}
+use Rattle.card.specs.Card.{flag, Card, cardOf}
+use Rattle.card.specs.Checks.{firstOf, checkOf}
+use Rattle.loader.specs.Linkage.{Linkage, bodyIn, bodyOf, startBody, linkageOf}
+use Rattle.state.specs.State.{bodyAt, numbersOf, startState, startChecks, startOf}
+use Rattle.table.specs.Tick.{solved, newBody, newState}
+use Rattle.table.specs.Run.{Ran, tickOf, tickNext, runOf}
+use Rattle.demand.specs.Demand.{Call, start, tick, ticks, leaves, afterCalls, CardOrRefused, AnchoredKept}
+use Rattle.demand.proofs.Checks.{start-passed, tick-passed}
+use Rattle.demand.proofs.Rows.{body-part, part-read}
 
--- ---- the start
+-- ---- the start, and a tick
 
-start-kept : (card : List ℕ) → AnchoredKept card (startState card (headerAt card))
-start-kept card i h a = start-body card (headerAt card) i h
+start-kept : (c : Card) → AnchoredKept c (startState c)
+unfolding startState
+start-kept c i h a =
+    body-part (map startBody (c .bodies)) (map (λ j. noTotals) (c .joints)) i (startBody []) (rw (length-map (c .bodies) startBody) h)
+    ∙ ap numbersOf (List·getD-map startBody (c .bodies) i [])
 
--- ---- stores elsewhere
+chosen : (v : Bool) (a b : BodyState) → T v → (if v then a else b) ≡ a
+chosen true a b t = refl
+chosen false a b t = absurd t
 
-set-out : (l : List Float) (n m k : ℕ) (a : Float) → (k < m) ⊎ (m + n ≤ k) → take n (drop m (set l k a)) ≡ take n (drop m l)
-set-out l n m k a (inl h) = ap (take n) (drop-set-lt m l k a h)
-set-out l n m k a (inr h) =
-    let e : k ≡ m + (k - m) = omega arith in
-    rw e (ap (take n) (drop-set-add m l (k - m) a) ∙ take-set-le n (drop m l) (k - m) a (omega arith))
+module _ (c : Card) (s : List Float) where
+  abbrev K : Linkage
+  K = linkageOf c
 
-sets-out : (vs l : List Float) (n m k : ℕ) → (k + length vs ≤ m) ⊎ (m + n ≤ k) → take n (drop m (sets l k vs)) ≡ take n (drop m l)
-sets-out [] l n m k h = refl
-sets-out (a ∷ vs) l n m k (inl h) = sets-out vs (set l k a) n m (suc k) (inl (omega arith)) ∙ set-out l n m k a (inl (omega arith))
-sets-out (a ∷ vs) l n m k (inr h) = sets-out vs (set l k a) n m (suc k) (inr (omega arith)) ∙ set-out l n m k a (inr h)
+  body-kept : (i : ℕ) → T (flag 0 (getD (c .bodies) i [])) → newBody K s i ≡ bodyAt s i
+  unfolding newBody linkageOf bodyIn
+  body-kept i a = rw (List·getD-map bodyOf (c .bodies) i []) (chosen (flag 0 (getD (c .bodies) i [])) (bodyAt s i) _ a)
 
--- two bodies' places
-apart : (i k : ℕ) → (k ≡ i → ⊥) → (13 * k + 13 ≤ 13 * i) ⊎ (13 * i + 13 ≤ 13 * k)
-apart i k n =
-    elim (decLe k i) [
-      | yes l ↦ elim (decLe i k) [
-        | yes m ↦ let e : k ≡ i = omega arith in absurd (n e)
-        | no m ↦ let g : k < i = lt-of-not-le m in inl (omega arith)
-      ]
-      | no l ↦ let g : i < k = lt-of-not-le l in inr (omega arith)
-    ]
-
--- ---- a tick, of which body i is anchored
-
-module _ (card : List ℕ) (s : List Float) (i : ℕ) (h : i < headerAt card .bodies) (a : T (bodyBits card i .anchored)) where
-  abbrev H : Header
-  H = headerAt card
-
-  abbrev Same : List Float → Type 0
-  Same t = take 13 (drop (13 * i) t) ≡ take 13 (drop (13 * i) s)
-
-  body-kept : (σ : Solved) (k : ℕ) (t : List Float) → Same t → Same (storeBody card H s σ k t)
-  body-kept σ k t e =
-      go (bodyBits card k .anchored) (λ (n : T (not (bodyBits card k .anchored))) (q : k ≡ i). T-not (bodyBits card k .anchored) n (subst (λ (z : ℕ). T (bodyBits card z .anchored)) (sym q) a))
-    where
-      go : (v : Bool) → (T (not v) → k ≡ i → ⊥) → Same (if v then t else sets t (13 * k) (numbersOf (newBody card H s σ k)))
-      go true n = e
-      go false n = sets-out (numbersOf (newBody card H s σ k)) t 13 (13 * i) (13 * k) (apart i k (n tt)) ∙ e
-
-  totals-kept : (σ : Solved) (j : ℕ) (t : List Float) → Same t → Same (storeTotals (H .bodies) (σ .totals) j t)
-  totals-kept σ j t e = sets-out (totalsNumbers (getD (σ .totals) j noTotals)) t 13 (13 * i) (totalsPlace (H .bodies) j) (inr (omega arith)) ∙ e
-
-  stored-kept : (σ : Solved) → Same (stored card H s σ)
-  unfolding stored
-  stored-kept σ =
-      after-all (storeTotals (H .bodies) (σ .totals)) (after (storeBody card H s σ) s (H .bodies)) Same (H .joints)
-      (after-all (storeBody card H s σ) s Same (H .bodies) refl (λ k t l e. body-kept σ k t e)) (λ j t l e. totals-kept σ j t e)
-
-  abbrev SameAfter : Answered → Type 0
-  SameAfter r = Same (r .state)
-
-  finished-kept : (σ : Solved) → SameAfter (finished card H s σ)
-  unfolding finished
-  finished-kept σ =
-      let x = answered 0 (stored card H s σ) in
-      let y = if anyTo (newFault card H s σ) (H .bodies) then answered 13 s else x in
-      either SameAfter (σ .stopped) (answered 13 s) y refl (either SameAfter (anyTo (newFault card H s σ) (H .bodies)) (answered 13 s) x refl (stored-kept σ))
-
-  accepted-kept : SameAfter (tickAccepted card H s)
-  unfolding tickAccepted
-  accepted-kept = finished-kept (before card H s (H .joints))
-
-  tick-kept : SameAfter (tickOf card s)
-  unfolding tickOf
-  tick-kept = either SameAfter (eqb (checkStateOf card s) 0) (tickAccepted card H s) (answered (checkStateOf card s) s) accepted-kept refl
+  new-kept : AnchoredKept c s → AnchoredKept c (newState K s)
+  unfolding newState linkageOf
+  new-kept z i h a =
+      let n = length (K .bodies) in
+      let l : i < n = rw (length-map (c .bodies) bodyOf) h in
+      body-part (each (newBody K s) n) (solved K s .totals) i (bodyAt s i) (rw (each-length (newBody K s) n) l)
+      ∙ ap numbersOf (each-at (newBody K s) n i (bodyAt s i) l ∙ body-kept i a ∙ part-read s i (startBody (getD (c .bodies) i [])) (z i h a))
 
 -- ---- bytes that the card's checks refuse: nothing is written
 
-left : (r : Answered) {k : ℕ} {s : List Float} → answered k s ≡ r → r .state ≡ s
-left r e = ap (λ (a : Answered). a .state) (sym e)
+left : (n : ℕ) (s new : List Float) → (n ≡ 0 → ⊥) → (if eqb n 0 then new else s) ≡ s
+left n s new x = rw (ne-eqb n 0 x) refl
+
+module _ (bytes : List ℕ) (s : List Float) (x : checkOf bytes ≡ 0 → ⊥) where
+  start-refused : startOf bytes s .state ≡ s
+  unfolding startOf
+  start-refused = left (startOf bytes s .number) s (startState (cardOf bytes)) (λ e. x (start-passed bytes s e))
+
+  tick-refused : tickOf bytes s .state ≡ s
+  unfolding tickOf
+  tick-refused = left (tickOf bytes s .number) s (newState (linkageOf (cardOf bytes)) s) (λ e. x (tick-passed bytes s e .0))
 
 -- ---- calls
 
-abbrev KeptBy : List ℕ → Answered → Type 0
-KeptBy card r = AnchoredKept card (r .state)
+module _ (card bytes : List ℕ) where
+  abbrev Kept : List Float → Type 0
+  Kept = AnchoredKept (cardOf card)
 
-tick-leaves : (card d : List ℕ) (s : List Float) → CardOrRefused card d → AnchoredKept card s → AnchoredKept card (tickOf d s .state)
-tick-leaves card d s (inl e) z = rw e (λ i h a. tick-kept card s i h a ∙ z i h a)
-tick-leaves card d s (inr r) z = rw (left (tickOf d s) (tick-refused d s (checkOf d) refl r)) z
+  start-leaves : CardOrRefused card bytes → (s : List Float) → Kept s → Kept (startOf bytes s .state)
+  unfolding startOf
+  start-leaves (inl e) s z = rw e (either Kept (eqb (startOf card s .number) 0) (startState (cardOf card)) s (start-kept (cardOf card)) z)
+  start-leaves (inr x) s z = rw (start-refused bytes s x) z
 
-next-leaves : (card d : List ℕ) → CardOrRefused card d → (i : ℕ) (r : Answered) → KeptBy card r → KeptBy card (tickNext d i r)
-unfolding tickNext
-next-leaves card d b i r z = either (KeptBy card) (eqb (r .number) 0) (tickOf d (r .state)) r (tick-leaves card d (r .state) b z) z
+  tick-leaves : CardOrRefused card bytes → (s : List Float) → Kept s → Kept (tickOf bytes s .state)
+  unfolding tickOf
+  tick-leaves (inl e) s z = rw e (either Kept (eqb (tickOf card s .number) 0) (newState (linkageOf (cardOf card)) s) s (new-kept (cardOf card) s z) z)
+  tick-leaves (inr x) s z = rw (tick-refused bytes s x) z
 
-run-leaves : (card d : List ℕ) (s : List Float) (n : ℕ) → CardOrRefused card d → AnchoredKept card s → AnchoredKept card (runOf d s n .state)
-unfolding runOf
-run-leaves card d s n b z = after-all (tickNext d) (answered (checkStateOf d s) s) (KeptBy card) n z (λ i r l y. next-leaves card d b i r y)
+  next-leaves : CardOrRefused card bytes → (i : ℕ) (a : Ran) → Kept (a .state) → Kept (tickNext bytes i a .state)
+  unfolding tickNext
+  next-leaves b i a z =
+      let t = tick-leaves b (a .state) z in
+      either (λ (r : Ran). Kept (r .state)) (eqb (a .number) 0) _ a (either (λ (r : Ran). Kept (r .state)) (eqb (tickOf bytes (a .state) .number) 0) _ _ t t) z
 
-start-same : (card : List ℕ) (s : List Float) → AnchoredKept card s → AnchoredKept card (startOf card s .state)
-unfolding startOf startAccepted
-start-same card s z =
-    let H = headerAt card in
-    either (KeptBy card) (eqb (checkOf card) 0) (startAccepted card H s) (answered (checkOf card) s)
-    (either (KeptBy card) (lengthFault (H .bodies) (H .joints) s) (answered 11 s) (answered 0 (startState card H)) z (start-kept card)) z
+  run-leaves : CardOrRefused card bytes → (n : ℕ) (s : List Float) → Kept s → Kept (runOf bytes s n .state)
+  unfolding runOf
+  run-leaves b n s z =
+      let first : Ran = record { number = firstOf (startChecks bytes s); ticks = 0; state = s } in
+      let a = after (tickNext bytes) first n in
+      either Kept (eqb (a .number) 0) (a .state) s (after-all (tickNext bytes) first (λ (r : Ran). Kept (r .state)) n z (λ i r l y. next-leaves b i r y)) z
 
-start-leaves : (card d : List ℕ) (s : List Float) → CardOrRefused card d → AnchoredKept card s → AnchoredKept card (startOf d s .state)
-start-leaves card d s (inl e) z = rw e (start-same card s z)
-start-leaves card d s (inr r) z = rw (left (startOf d s) (start-refused d s (checkOf d) refl r)) z
+call-leaves : (card : List ℕ) (c : Call × List ℕ) → CardOrRefused card (c .1) → (s : List Float) → AnchoredKept (cardOf card) s → AnchoredKept (cardOf card) (leaves c s)
+call-leaves card (start, bytes) = start-leaves card bytes
+call-leaves card (tick, bytes) = tick-leaves card bytes
+call-leaves card (ticks n, bytes) = λ b. run-leaves card bytes b n
 
-call-leaves : (card : List ℕ) (c : Call) (s : List Float) → CardOrRefused card (bytesOf c) → AnchoredKept card s → AnchoredKept card (leaves c s)
-call-leaves card (start d) s b z = start-leaves card d s b z
-call-leaves card (tick d) s b z = tick-leaves card d s b z
-call-leaves card (ticks n d) s b z = run-leaves card d s n b z
-
-calls-leave : (card : List ℕ) (l : List Call) → ((c : Call) → List·Memᴰ c l → CardOrRefused card (bytesOf c)) → (s : List Float) → AnchoredKept card s → AnchoredKept card (afterCalls l s)
+calls-leave : (card : List ℕ) (l : List (Call × List ℕ)) → ((c : Call × List ℕ) → List·Memᴰ c l → CardOrRefused card (c .1)) → (s : List Float) → AnchoredKept (cardOf card) s → AnchoredKept (cardOf card) (afterCalls l s)
 unfolding afterCalls
 calls-leave card [] b s z = z
 calls-leave card (c ∷ l) b s z =
-    calls-leave card l (λ k m. b k (List·Memᴰ·tail m)) (leaves c s) (call-leaves card c s (b c (List·Memᴰ·head refl)) z)
+    calls-leave card l (λ k m. b k (List·Memᴰ·tail m)) (leaves c s) (call-leaves card c (b c (List·Memᴰ·head refl)) s z)
 
-pub anchored-kept : (card : List ℕ) (l : List Call) → ((c : Call) → List·Memᴰ c l → CardOrRefused card (bytesOf c)) → AnchoredKept card (afterCalls l (startState card (headerAt card)))
-anchored-kept card l b = calls-leave card l b (startState card (headerAt card)) (start-kept card)
+pub anchored-kept : (card : List ℕ) (l : List (Call × List ℕ)) → ((c : Call × List ℕ) → List·Memᴰ c l → CardOrRefused card (c .1)) → AnchoredKept (cardOf card) (afterCalls l (startState (cardOf card)))
+anchored-kept card l b = calls-leave card l b (startState (cardOf card)) (start-kept (cardOf card))

@@ -1,9 +1,9 @@
 -- The displacements of the solver's bodies are f32s at every place of a tick: zero at first, then products and sums.
 use Prim.Native.Nat.{ℕ, zero, suc}
 use mathlib.Core.Path.{subst}
-use mathlib.Core.Bool.{false, not}
-use mathlib.Core.List.{List, [], _∷_}
-use lib.ListN.{getD, set, replicate}
+use mathlib.Core.Bool.{true, not}
+use mathlib.Core.List.{List, [], _∷_, map}
+use lib.ListN.{length, getD, set, replicate}
 use lib.Ieee.{Float, binary32}
 use lib.Ieee.Fits.{mul-fits}
 use Rattle.vector.specs.Vector.{scaleOf}
@@ -16,7 +16,7 @@ use Rattle.xpbd_joints.specs.Revolute as hinge
 use Rattle.xpbd_joints.specs.Prismatic as slide
 use Rattle.xpbd_joints.specs.declared.revolute.RevoluteSolved.{RevoluteSolved}
 use Rattle.xpbd_joints.specs.declared.prismatic.PrismaticSolved.{PrismaticSolved}
-use Rattle.xpbd_plugin.specs.Joint.{jointWarmStarted, jointSolved, noTotals}
+use Rattle.xpbd_plugin.specs.Joint.{jointWarmed, jointSolved, noTotals}
 use Rattle.xpbd_plugin.specs.declared.PreparedJoint.{PreparedJoint}
 use Rattle.xpbd_plugin.specs.declared.PreparedJoint.the-variants.{Fixed, Revolute, Prismatic, Spherical, Distance}
 use Rattle.stages.specs.Steps.{Setting, Run}
@@ -25,14 +25,11 @@ use Rattle.stages.proofs.Choice.{either}
 use Rattle.stages.proofs.Vec.{Fits3, origin-fits3}
 use Rattle.stages.proofs.Sound.{Fit, run-fit}
 use Rattle.stages.proofs.Faithful.{joint-is-steps}
-use Rattle.card.specs.Layout.{maxBodies, maxJoints}
-use Rattle.card.specs.Records.{bodyBits, dtOf}
-use Rattle.card_records.specs.Decode.{inertiaAt}
-use Rattle.card.specs.declared.records.Header.{Header}
 use Rattle.tick.specs.Body.{integrated}
-use Rattle.tick.specs.Joint.{jointFinite}
-use Rattle.table.specs.Tick.{Solved, bodyStateAt, firstBody, secondBody, inertiasAt, preparedAt, putMoving, pairAt, putPair, loadNext, warmStartNext, integrateNext, loaded, warmStarted, preSolve, solvedAt, putSolved, stop, solveNext, before}
-use Rattle.table.proofs.Loops.{after-all}
+use Rattle.numbers.proofs.Loops.{after-all}
+use Rattle.loader.specs.Linkage.{Linkage}
+use Rattle.state.specs.State.{bodyAt}
+use Rattle.table.specs.Tick.{Solved, body, joint, put, eachMoving, inertias, prepared, pair, putPair, loaded, warmStartNext, warmStarted, preSolve, solveNext, solvedTo}
 
 abbrev Fitting : SolverBody → Type 0
 Fitting b = Fits3 (b .«delta_position»)
@@ -64,8 +61,8 @@ unfolding solverBodyOf
 loaded-fit b = origin-fits3
 
 -- a warm start changes velocities alone
-warm-fit : (p : PreparedJoint) (b : BodyPair) (i₁ i₂ : SolverBodyInertia) (c : Float) → Fit b → Fit (jointWarmStarted p b i₁ i₂ c .bodies)
-unfolding jointWarmStarted hinge.revoluteWarmStarted slide.prismaticWarmStarted hinge.spun slide.pushedBy
+warm-fit : (p : PreparedJoint) (b : BodyPair) (i₁ i₂ : SolverBodyInertia) (c : Float) → Fit b → Fit (jointWarmed p b i₁ i₂ c)
+unfolding jointWarmed hinge.revoluteWarmStarted slide.prismaticWarmStarted hinge.spun slide.pushedBy
 warm-fit (Fixed j k) b i₁ i₂ c f = f
 warm-fit (Revolute j k) b i₁ i₂ c f = either (λ (r : RevoluteSolved). Fit (r .bodies)) (not (j .motor .enabled)) _ _ f (record { p₁ = f .p₁; p₂ = f .p₂ })
 warm-fit (Prismatic j k) b i₁ i₂ c f = either (λ (r : PrismaticSolved). Fit (r .bodies)) (not (j .motor .enabled)) _ _ f (record { p₁ = f .p₁; p₂ = f .p₂ })
@@ -79,57 +76,46 @@ solved-fit p b i₁ i₂ h f =
 
 -- ---- the tick
 
-module _ (card : List ℕ) (h : Header) (s : List Float) where
-  moving-fit : (i : ℕ) (b : SolverBody) (l : List SolverBody) → FitAll l → Fitting b → FitAll (putMoving card i b l)
-  moving-fit i b l f g = either FitAll (bodyBits card i .anchored) l (set l i b) f (set-fit l i b f g)
+module _ (K : Linkage) (s : List Float) where
+  moving-fit : (i : ℕ) (b : SolverBody) (l : List SolverBody) → FitAll l → Fitting b → FitAll (put K i b l)
+  moving-fit i b l f g = either FitAll (body K i .anchored) l (set l i b) f (set-fit l i b f g)
 
-  pub pair-fit : (j : ℕ) (l : List SolverBody) → FitAll l → Fit (pairAt card h s j l)
-  pair-fit j l f = record { p₁ = f (firstBody card h s j); p₂ = f (secondBody card h s j) }
+  each-fit : (make : ℕ → SolverBody → SolverBody) → ((i : ℕ) (b : SolverBody) → Fitting (make i b)) → (l : List SolverBody) → FitAll l → FitAll (eachMoving K make l)
+  each-fit make g l f =
+      after-all (λ i m. put K i (make i (getD m i dummyBody)) m) l FitAll (length (K .bodies)) f
+      (λ i m h k. moving-fit i (make i (getD m i dummyBody)) m k (g i (getD m i dummyBody)))
 
-  put-fit : (j : ℕ) (p : BodyPair) (l : List SolverBody) → FitAll l → Fit p → FitAll (putPair card h s j p l)
+  pub pair-fit : (j : ℕ) (l : List SolverBody) → FitAll l → Fit (pair K j l)
+  pair-fit j l f = record { p₁ = f (joint K j .body1); p₂ = f (joint K j .body2) }
+
+  put-fit : (j : ℕ) (p : BodyPair) (l : List SolverBody) → FitAll l → Fit p → FitAll (putPair K j p l)
   put-fit j p l f g =
-      moving-fit (secondBody card h s j) (p .body2) (putMoving card (firstBody card h s j) (p .body1) l)
-      (moving-fit (firstBody card h s j) (p .body1) l f (g .p₁)) (g .p₂)
+      let k = joint K j in
+      moving-fit (k .body2) (p .body2) (put K (k .body1) (p .body1) l) (moving-fit (k .body1) (p .body1) l f (g .p₁)) (g .p₂)
 
-  load-fit : FitAll (loaded card h s)
+  load-fit : FitAll (loaded K s)
   unfolding loaded
-  load-fit =
-      after-all (loadNext card s) (replicate maxBodies dummyBody) FitAll (h .bodies) (dummies-fit maxBodies)
-      (λ i l m f. moving-fit i (solverBodyOf (bodyStateAt s i)) l f (loaded-fit (bodyStateAt s i)))
+  load-fit = each-fit (λ i b. solverBodyOf (bodyAt s i)) (λ i b. loaded-fit (bodyAt s i)) (replicate (length (K .bodies)) dummyBody) (dummies-fit (length (K .bodies)))
 
-  warm-start-fit : FitAll (warmStarted card h s)
+  warm-start-fit : FitAll (warmStarted K s)
   unfolding warmStarted
-  warm-start-fit = after-all (warmStartNext card h s) (loaded card h s) FitAll (h .joints) load-fit (λ j l m f. next j l f)
-    where
-      next : (j : ℕ) (l : List SolverBody) → FitAll l → FitAll (warmStartNext card h s j l)
-      next j l f =
-          let i = inertiasAt card h s j in
-          let b = pairAt card h s j l in
-          put-fit j (jointWarmStarted (preparedAt card h s j) b (i .inertia1) (i .inertia2) (h .«warm_coefficient») .bodies) l f
-          (warm-fit (preparedAt card h s j) b (i .inertia1) (i .inertia2) (h .«warm_coefficient») (pair-fit j l f))
+  warm-start-fit =
+      after-all (warmStartNext K s) (loaded K s) FitAll (length (K .joints)) load-fit
+      (λ j l m f. put-fit j _ l f (warm-fit (prepared K s j) (pair K j l) (inertias K j .inertia1) (inertias K j .inertia2) (K .«warm_coefficient») (pair-fit j l f)))
 
-  pre-solve-fit : FitAll (preSolve card h s)
+  pre-solve-fit : FitAll (preSolve K s)
   unfolding preSolve
-  pre-solve-fit =
-      after-all (integrateNext card h s) (warmStarted card h s) FitAll (h .bodies) warm-start-fit
-      (λ i l m f. moving-fit i (integrated (getD l i dummyBody) (inertiaAt card i) (h .gravity) (dtOf h)) l f (integrated-fit (getD l i dummyBody) (inertiaAt card i) (h .gravity) (dtOf h)))
+  pre-solve-fit = each-fit (λ i b. integrated b (body K i .inertia) (K .gravity) (K .dt)) (λ i b. integrated-fit b (body K i .inertia) (K .gravity) (K .dt)) (warmStarted K s) warm-start-fit
 
-  solve-fit : (j : ℕ) (l : List SolverBody) → FitAll l → FitAll (putPair card h s j (solvedAt card h s j l .bodies) l)
-  solve-fit j l f =
-      let i = inertiasAt card h s j in
-      let b = pairAt card h s j l in
-      put-fit j (solvedAt card h s j l .bodies) l f (solved-fit (preparedAt card h s j) b (i .inertia1) (i .inertia2) (dtOf h) (pair-fit j l f))
-
-  next-fit : (j : ℕ) (σ : Solved) → FitAll (σ .bodies) → FitAll (solveNext card h s j σ .bodies)
+  next-fit : (j : ℕ) (σ : Solved) → FitAll (σ .bodies) → FitAll (solveNext K s j σ .bodies)
   unfolding solveNext
   next-fit j σ f =
-      let solved = solvedAt card h s j (σ .bodies) in
-      either (λ (τ : Solved). FitAll (τ .bodies)) (σ .stopped) σ _ f
-      (either (λ (τ : Solved). FitAll (τ .bodies)) (jointFinite solved) (putSolved card h s j solved σ) (stop σ) (solve-fit j (σ .bodies) f) f)
+      let l = σ .bodies in
+      put-fit j _ l f (solved-fit (prepared K s j) (pair K j l) (inertias K j .inertia1) (inertias K j .inertia2) (K .dt) (pair-fit j l f))
 
   -- what joint j finds
-  pub before-fit : (j : ℕ) → FitAll (before card h s j .bodies)
-  unfolding before
-  before-fit j =
-      after-all (solveNext card h s) (record { stopped = false; bodies = preSolve card h s; totals = replicate maxJoints noTotals }) (λ (σ : Solved). FitAll (σ .bodies)) j
+  pub found-fit : (j : ℕ) → FitAll (solvedTo K s j .bodies)
+  unfolding solvedTo
+  found-fit j =
+      after-all (solveNext K s) (record { bodies = preSolve K s; totals = map (λ k. noTotals) (K .joints); finite = true }) (λ (σ : Solved). FitAll (σ .bodies)) j
       pre-solve-fit (λ k σ m f. next-fit k σ f)

@@ -2,21 +2,20 @@
 use Prim.Native.Nat.{ℕ, zero, suc, _+_, _*_, _<_}
 use native.Mathlib.Nat.{lt-of-lt-of-le}
 use native.Mathlib.Omega.{arith}
+use mathlib.Core.Path.{_≡_}
 use mathlib.Core.Bool.{Bool, true, false}
-use mathlib.Core.List.{List}
-use lib.ListN.{getD}
-use lib.Dec.{T, eqb}
+use mathlib.Core.List.{List, [], _∷_, map}
+use lib.ListN.{length, getD, drop, List·getD-map}
+use lib.Dec.{T}
 use lib.Signed.{ltZ}
 use lib.Ieee.{Float, binary32, ofBits, ofFields, fits, le}
 use lib.Ieee.Bits.{ofBits-fits}
-use Rattle.scalar.specs.Arith.{f0}
+use Rattle.scalar.specs.Arith.{f32, f0}
 use Rattle.vector.specs.declared.Vec3.{Vec3}
 use Rattle.joints.specs.declared.Joint.{Joint}
 use Rattle.joints.specs.declared.Joint.the-variants.{Fixed, Revolute, Prismatic, Spherical, Distance}
 use Rattle.joints.specs.declared.AngleLimitOption.{AngleLimitOption}
 use Rattle.joints.specs.declared.AngleLimitOption.the-variants.{Unlimited, Limited}
-use Rattle.joints.specs.declared.motor.AngularMotor.{AngularMotor}
-use Rattle.joints.specs.declared.motor.LinearMotor.{LinearMotor}
 use Rattle.solver_body.specs.Body.{dummyInertia, unlocked, effectiveInvMass}
 use Rattle.solver_body.specs.declared.RigidBody.{RigidBody}
 use Rattle.solver_body.specs.declared.SolverBodyInertia.{SolverBodyInertia}
@@ -30,27 +29,19 @@ use Rattle.stages.specs.Any.{stepsOf}
 use Rattle.stages.proofs.Choice.{either}
 use Rattle.stages.proofs.Vec.{Held3}
 use Rattle.stages.proofs.Sound.{SettingOk, StepOk, All, all-append}
-use Rattle.card.specs.Layout.{bodyFloats, jointFloats, invMassFloat, complianceFloat}
-use Rattle.card.specs.Bits.{floatAt}
-use Rattle.card.specs.Fields.{floatIn, floatOf}
-use Rattle.card.specs.Records.{headerAt, bodyBits, jointBits, dtOf}
-use Rattle.card.specs.Accepted.{AcceptedBody, AcceptedJoint, Accepted}
-use Rattle.card.proofs.Ranges.{float-fits}
-use Rattle.card_records.specs.Decode.{movingInertia, inertiaAt, angularMotorAt, linearMotorAt, fixedAt, revoluteAt, prismaticAt, sphericalAt, distanceAt, joints, jointOf, jointAt}
-use Rattle.card_records.specs.declared.joint.CardJoint.the-variants.{Unknown}
-use Rattle.table.specs.Tick.{knownJoint, firstBody, secondBody, rigidAt, preparedAt}
-use Rattle.demand.specs.Trace.{settingAt, stepsAt}
-
--- ---- the time
-
-time-held : (card : List ℕ) → Accepted card → Held binary32 (dtOf (headerAt card))
-unfolding dtOf ofBits ofFields
-time-held card a = step-held binary32 (headerAt card .rate) (lt-of-lt-of-le (omega arith) (a .least-rate))
+use Rattle.card.specs.Format.{Cell, widthOf, numbersAt, recordsAt}
+use Rattle.card.specs.Card.{at, flag, body, editionAt, Card, cardOf}
+use Rattle.card.specs.Checks.{checkOf}
+use Rattle.card.specs.Accepted.{Real, Ranged, AcceptedCard}
+use Rattle.card.specs.Parts.{joint1}
+use Rattle.card.proofs.Cut.{records-length, record-at}
+use Rattle.card.proofs.Edition1.{only-edition, edition-is}
+use Rattle.card.proofs.Accepted.{accepted}
+use Rattle.loader.specs.Linkage.{Linkage, angularMotorIn, linearMotorIn, fixedIn, revoluteIn, prismaticIn, sphericalIn, distanceIn, kindIn, bodyIn, bodyOf, jointOf, linkageOf}
+use Rattle.table.specs.Tick as tick
+use Rattle.demand.specs.Trace.{settingAt}
 
 -- ---- inverse masses
-
-abbrev MassHeld : SolverBodyInertia → Type 0
-MassHeld i = Held binary32 (i .«inv_mass»)
 
 zero-held : Held binary32 f0
 unfolding ofBits ofFields
@@ -61,6 +52,9 @@ unfolding unlocked
 unlocked-held true m h = zero-held
 unlocked-held false m h = h
 
+abbrev MassHeld : SolverBodyInertia → Type 0
+MassHeld i = Held binary32 (i .«inv_mass»)
+
 masses-held : (i : SolverBodyInertia) → MassHeld i → Held3 (effectiveInvMass i)
 unfolding effectiveInvMass
 masses-held i h = (
@@ -68,11 +62,6 @@ masses-held i h = (
   unlocked-held (i .«translation_y_locked») (i .«inv_mass») h,
   unlocked-held (i .«translation_z_locked») (i .«inv_mass») h,
 )
-
--- an anchored body's is zero
-body-held : (card : List ℕ) (i : ℕ) → AcceptedBody card i → MassHeld (inertiaAt card i)
-unfolding inertiaAt movingInertia
-body-held card i a = either MassHeld (bodyBits card i .anchored) dummyInertia (movingInertia card (bodyBits card i) (bodyFloats i)) zero-held (a .floats invMassFloat (omega arith) .held)
 
 abbrev MassesHeld : InertiaPair → Type 0
 MassesHeld p = MassHeld (p .inertia1) × MassHeld (p .inertia2)
@@ -82,13 +71,10 @@ unfolding dominatedOf
 dominated-held i₁ i₂ h k =
     either MassesHeld (ltZ (i₂ .dominance) (i₁ .dominance)) _ _ (zero-held, k) (either MassesHeld (ltZ (i₁ .dominance) (i₂ .dominance)) _ _ (h, zero-held) (h, k))
 
-pub setting-ok : (card : List ℕ) (s : List Float) → Accepted card → (j : ℕ) → j < headerAt card .joints → SettingOk (settingAt card s j)
-setting-ok card s a j l =
-    let h = headerAt card in
-    let b = firstBody card h s j in
-    let c = secondBody card h s j in
-    let m = dominated-held (inertiaAt card b) (inertiaAt card c) (body-held card b (a .body b (a .joint j l .body1))) (body-held card c (a .body c (a .joint j l .body2))) in
-    record { dt-held = time-held card a; m₁ = masses-held _ (m .0); m₂ = masses-held _ (m .1) }
+-- an anchored body's is zero
+body-held : (l : List ℕ) (p : ℕ) → Ranged body (numbersAt body l p) → MassHeld (bodyOf (numbersAt body l p) .inertia)
+unfolding bodyIn numbersAt
+body-held l p r = either MassHeld (flag 0 (numbersAt body l p)) dummyInertia _ zero-held (r 22 .held)
 
 -- ---- compliances and caps
 
@@ -126,41 +112,71 @@ prepared-ok (Spherical j) h b₁ b₂ w = (
 )
 prepared-ok (Distance j) h b₁ b₂ w = (h, tt)
 
-hinge-cap-fits : (card : List ℕ) (motor at : ℕ) → T (fits binary32 (angularMotorAt card motor at .«max_torque»))
-unfolding angularMotorAt
-hinge-cap-fits card motor at = either (λ (m : AngularMotor). T (fits binary32 (m .«max_torque»))) (eqb motor 0) _ _ (ofBits-fits binary32 0x7f7f_ffff) (float-fits card (at + 8))
+soft : {x : Float} → Real f0 x → Soft x
+soft r = (r .held .0, r .above)
 
-slide-cap-fits : (card : List ℕ) (motor at : ℕ) → T (fits binary32 (linearMotorAt card motor at .«max_force»))
-unfolding linearMotorAt
-slide-cap-fits card motor at = either (λ (m : LinearMotor). T (fits binary32 (m .«max_force»))) (eqb motor 0) _ _ (ofBits-fits binary32 0x7f7f_ffff) (float-fits card (at + 8))
+-- the cells are known, so each number computes to its bits
+joint-compliant : (l : List ℕ) (p : ℕ) → Ranged joint1 (numbersAt joint1 l p) → Compliant (jointOf (numbersAt joint1 l p) .joint)
+unfolding kindIn fixedIn revoluteIn prismaticIn sphericalIn distanceIn angularMotorIn linearMotorIn numbersAt
+joint-compliant l p r = go (at 0 ns)
+  where
+    ns : List ℕ
+    ns = numbersAt joint1 l p
 
-module _ (card : List ℕ) (bodies j : ℕ) (a : AcceptedJoint card bodies j) where
-  abbrev at : ℕ → ℕ
-  at n = jointFloats bodies j + 4 * n
+    fs : List Float
+    fs = map f32 (drop 7 ns)
 
-  joint-compliant : Compliant (knownJoint (jointAt card bodies j))
-  unfolding knownJoint jointAt jointOf fixedAt revoluteAt prismaticAt sphericalAt distanceAt floatOf floatIn le ofBits
-  joint-compliant = go (jointBits card bodies j .kind)
-    where
-      c₁ : Soft (floatAt card (at complianceFloat))
-      c₁ = (float-fits card (at complianceFloat), a .floats complianceFloat (omega arith) .low)
+    go : (k : ℕ) → Compliant (getD (Fixed (fixedIn fs) ∷ Revolute (revoluteIn ns fs) ∷ Prismatic (prismaticIn ns fs) ∷ Spherical (sphericalIn ns fs) ∷ []) k (Distance (distanceIn fs)))
+    go zero = (soft (r 24), soft (r 25))
+    go (suc zero) = (soft (r 24), soft (r 25), soft (r 26), r 34 .held .0)
+    go (suc (suc zero)) = (soft (r 24), soft (r 25), r 34 .held .0)
+    go (suc (suc (suc zero))) = (soft (r 24), soft (r 25), soft (r 26))
+    go (suc (suc (suc (suc k)))) = soft (r 24)
 
-      c₂ : Soft (floatAt card (at (complianceFloat + 1)))
-      c₂ = (float-fits card (at (complianceFloat + 1)), a .floats (complianceFloat + 1) (omega arith) .low)
+-- ---- the card
 
-      c₃ : Soft (floatAt card (at (complianceFloat + 2)))
-      c₃ = (float-fits card (at (complianceFloat + 2)), a .floats (complianceFloat + 2) (omega arith) .low)
+-- what each record has, wherever it begins, each of a row has
+each-has : (P : List ℕ → Type 0) (cs : List Cell) (l : List ℕ) → ((p : ℕ) → Ranged cs (numbersAt cs l p) → P (numbersAt cs l p))
+    → (p n i : ℕ) → i < length (recordsAt cs l p n) → Ranged cs (getD (recordsAt cs l p n) i []) → P (getD (recordsAt cs l p n) i [])
+each-has P cs l f p n i h r =
+    let within : i < n = rw (records-length cs l p n) at h in
+    let here = record-at cs l p n i within in
+    rw here (f (p + i * widthOf cs) (rw here at r))
 
-      go : (k : ℕ) → Compliant (knownJoint (getD (joints card (jointBits card bodies j) (jointFloats bodies j)) k Unknown))
-      go zero = (c₁, c₂)
-      go (suc zero) = (c₁, c₂, c₃, hinge-cap-fits card _ _)
-      go (suc (suc zero)) = (c₁, c₂, slide-cap-fits card _ _)
-      go (suc (suc (suc zero))) = (c₁, c₂, c₃)
-      go (suc (suc (suc (suc zero)))) = c₁
-      go (suc (suc (suc (suc (suc k))))) = (ofBits-fits binary32 0, tt)
+module _ (card : List ℕ) (z : checkOf card ≡ 0) (s : List Float) where
+  abbrev c : Card
+  c = cardOf card
 
-pub steps-ok : (card : List ℕ) (s : List Float) → Accepted card → (j : ℕ) → j < headerAt card .joints → All StepOk (stepsAt card s j)
-unfolding preparedAt
-steps-ok card s a j l =
-    let h = headerAt card in
-    prepared-ok (knownJoint (jointAt card (h .bodies) j)) (joint-compliant card (h .bodies) j (a .joint j l)) (rigidAt card s (firstBody card h s j)) (rigidAt card s (secondBody card h s j)) _
+  abbrev K : Linkage
+  K = linkageOf c
+
+  abbrev has : AcceptedCard (editionAt card) c
+  has = accepted card z .has
+
+  time-held : Held binary32 (K .dt)
+  unfolding linkageOf ofBits ofFields
+  time-held = step-held binary32 (at 3 (c .header)) (lt-of-lt-of-le (omega arith) (has .least-rate))
+
+  mass-held : (i : ℕ) → i < length (c .bodies) → MassHeld (tick.body K i .inertia)
+  unfolding linkageOf cardOf
+  mass-held i h = rw (List·getD-map bodyOf (c .bodies) i []) (each-has (λ ns. MassHeld (bodyOf ns .inertia)) body card (body-held card) _ _ i h (has .body i h))
+
+  joint-is : (j : ℕ) → tick.joint K j ≡ jointOf (getD (c .joints) j [])
+  unfolding linkageOf
+  joint-is j = List·getD-map jointOf (c .joints) j []
+
+  module _ (j : ℕ) (h : j < length (c .joints)) where
+    pub setting-ok : SettingOk (settingAt K s j)
+    setting-ok =
+        let k = tick.joint K j in
+        let n = has .joint j h in
+        let m = dominated-held _ _ (mass-held (k .body1) (rw (joint-is j) (n .body1))) (mass-held (k .body2) (rw (joint-is j) (n .body2))) in
+        record { dt-held = time-held; m₁ = masses-held _ (m .0); m₂ = masses-held _ (m .1) }
+
+    pub steps-ok : All StepOk (stepsOf (tick.prepared K s j))
+    unfolding tick.prepared cardOf
+    steps-ok =
+        let e = edition-is card (only-edition (accepted card z .edition)) in
+        prepared-ok (tick.joint K j .joint)
+        (rw (joint-is j) (each-has (λ ns. Compliant (jointOf ns .joint)) (editionAt card .joint) card (rw e (joint-compliant card)) _ _ j h (has .joint j h .ranged)))
+        _ _ _

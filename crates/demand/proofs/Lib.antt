@@ -1,5 +1,7 @@
-pub mod Anchored
+pub mod Rows
+pub mod Checks
 pub mod Calm
+pub mod Anchored
 pub mod Fitting
 pub mod Given
 pub mod Ticking

@@ -1,6 +1,6 @@
 -- The sample's tick: all is computed.
 use mathlib.Core.Path.{refl}
-use lib.Ieee.{ofBits, ofFields, ofInt, add, sub, mul, div, neg, rem, sum, round, units, odd, size, span, climb, le, lt, eq, toUnsigned}
+use lib.Ieee.{ofBits, ofFields, ofInt, add, sub, mul, div, neg, rem, sum, round, units, le, lt, eq, toUnsigned}
 use Rattle.scalar.specs.Scalar.{minOf, maxOf, clampOf, remEuclidOf, isFinite, outside}
 use Rattle.root.specs.Root.{rootOf, rootUnits, floorRoot, digits}
 use Rattle.series.specs.Tables.{sines}
@@ -18,27 +18,25 @@ use Rattle.xpbd.specs.Angular.{aligned, angularInverseMass, angularImpulseAppli
 use Rattle.xpbd.specs.Point.{pointPrepared, pointSolved}
 use Rattle.xpbd_joints.specs.Stage.{alignStage, unlessOff}
 use Rattle.xpbd_joints.specs.Revolute.{revoluteWarmStarted, spun, revolutePrepared, revoluteSolved, axesStage, motorStage, wrappedError, hingeAngle, drivenBy, angularMotorGiven, angleLimitStage}
-use Rattle.xpbd_plugin.specs.Plugin.{angularProjected, angularChange, linearProjected, dominatedOf}
-use Rattle.xpbd_plugin.specs.Joint.{jointWarmStarted, jointPrepared, jointSolved, totalsOf}
+use Rattle.xpbd_plugin.specs.Plugin.{angularChange, dominatedOf}
+use Rattle.xpbd_plugin.specs.Joint.{jointWarmed, jointPrepared, jointSolved, totalsOf}
 use Rattle.stages.specs.Stage.{correctionOf, afterOf, totalChange, multiplierOf}
 use Rattle.stages.specs.Steps.{events}
 use Rattle.stages.specs.Any.{stepsOf}
-use Rattle.card.specs.Bits.{bits16, bits24, bits32, floatAt, vec3At, quatAt}
-use Rattle.card.specs.Loop.{anyTo}
-use Rattle.card.specs.Fields.{kindOf, allows, floatIn, floatOf, outOf}
-use Rattle.card.specs.Records.{headerAt, bodyBits, jointBits, dtOf}
+use Rattle.numbers.specs.Lists.{all, concat, each, after}
+use Rattle.card.specs.Format.{bitsAt, numbersAt, recordsAt, anyCell, outOf}
+use Rattle.card.specs.Card.{kindAt, editionOf, cardOf}
 use Rattle.card.specs.Checks as checks
-use Rattle.card_records.specs.Decode.{tensorAt, signed, movingInertia, inertiaAt, centerOfMassAt, bodyAt, frameAt, angleLimitAt, modelOf, angularMotorAt, revoluteAt, jointOf, jointAt}
-use Rattle.card_records.specs.State.{checkStateOf, orElse, stateFault, numberFault, boundOf, startState, startTo}
+use Rattle.loader.specs.Linkage.{signed, bodyIn, modelIn, angularMotorIn, revoluteIn, kindIn, linkageOf}
+use Rattle.state.specs.State.{bodyAt, totalsAt, startState, badNumbers}
 use Rattle.tick.specs.Finite.{finite3, finite4, bodyFinite}
-use Rattle.tick.specs.Body.{bodyFault, tooFar, finishedBody, projected, integrated, unlockedVelocity}
+use Rattle.tick.specs.Body.{integrated, finishedBody}
 use Rattle.tick.specs.Joint.{warmValue, jointFinite, preparedFinite, pointFinite, armsFinite, axesFinite, totalsFinite}
-use Rattle.table.specs.Loop.{after}
-use Rattle.table.specs.Tick.{tickAccepted, finished, newFault, newBody, rigidAt, bodyStateAt, preSolve, warmStarted, preparedAt, knownJoint, totalsAt, loaded, stored, before, solveNext}
+use Rattle.table.specs.Tick.{prepared, loaded, warmStarted, preSolve, solveNext, solvedTo, newBody, newState, stopped}
 use Rattle.table.specs.Run.{tickOf}
 use Rattle.demand.specs.Trace.{eventsAt}
 use Rattle.demand.specs.Sample.{Sample}
 
 pub sample-holds : Sample
-unfolding ofBits ofFields ofInt add sub mul div neg rem sum round units odd size span climb le lt eq toUnsigned minOf maxOf clampOf remEuclidOf rootOf rootUnits floorRoot digits sines isFinite overUnit interpolated sinSmall cosSmall sinOf scaledOf tableSine carried cosOf atan2Of angleOf halfPlaneAngle quadrantAngle atanOf atanSmall addOf subOf negOf scaleOf timesOf divOf dotOf crossOf lengthSquaredOf lengthOf maxElement anyOrthonormal signum vectorPart productOf inverseOf normalized dividedBy normOf turnOf ofScaledAxis ofAxisAngle tensorTimes motorLagrange velocityChange capped unlocked effectiveInvMass lagrangeUpdate anchorArm centerDifference separationOf positionCorrected correctionImpulse weight generalizedInverseMass impulseApplied pushed deltaRot pulled aligned angularInverseMass angularImpulseApplied turned angularDeltaRot pointPrepared pointSolved alignStage revoluteWarmStarted spun revolutePrepared revoluteSolved axesStage motorStage wrappedError hingeAngle drivenBy angleLimitStage angularProjected angularChange linearProjected dominatedOf jointWarmStarted jointPrepared jointSolved correctionOf afterOf totalChange multiplierOf events angularMotorGiven unlessOff stepsOf bits16 bits24 bits32 floatAt vec3At quatAt anyTo kindOf allows floatIn floatOf outside outOf headerAt bodyBits jointBits dtOf checks.countsFault checks.rateFault checks.bodyBitsFault checks.bitsFit checks.jointBitsFault checks.unusedSet checks.outOfRange checks.limitFault checks.offUnit checks.axisFault checks.rotationFault checks.basesFault checks.normsFault checks.pairFault checks.headerFault checks.bodyFault checks.jointFault checks.recordFault checks.checkOf tensorAt signed movingInertia inertiaAt centerOfMassAt bodyAt frameAt angleLimitAt modelOf angularMotorAt revoluteAt jointOf jointAt checkStateOf orElse stateFault numberFault boundOf startState startTo finite3 finite4 bodyFinite bodyFault tooFar finishedBody projected integrated unlockedVelocity solverBodyOf warmValue jointFinite preparedFinite pointFinite armsFinite axesFinite totalsFinite totalsOf after tickAccepted finished newFault newBody rigidAt bodyStateAt preSolve warmStarted preparedAt knownJoint totalsAt loaded stored before solveNext tickOf eventsAt
+unfolding ofBits ofFields ofInt add sub mul div neg rem sum round units le lt eq toUnsigned minOf maxOf clampOf remEuclidOf rootOf rootUnits floorRoot digits sines isFinite overUnit interpolated sinSmall cosSmall sinOf scaledOf tableSine carried cosOf atan2Of angleOf halfPlaneAngle quadrantAngle atanOf atanSmall addOf subOf negOf scaleOf timesOf divOf dotOf crossOf lengthSquaredOf lengthOf maxElement anyOrthonormal signum vectorPart productOf inverseOf normalized dividedBy normOf turnOf ofScaledAxis ofAxisAngle tensorTimes motorLagrange velocityChange capped unlocked effectiveInvMass lagrangeUpdate anchorArm centerDifference separationOf positionCorrected correctionImpulse weight generalizedInverseMass impulseApplied pushed deltaRot pulled aligned angularInverseMass angularImpulseApplied turned angularDeltaRot pointPrepared pointSolved alignStage revoluteWarmStarted spun revolutePrepared revoluteSolved axesStage motorStage wrappedError hingeAngle drivenBy angleLimitStage angularChange dominatedOf jointWarmed jointPrepared jointSolved correctionOf afterOf totalChange multiplierOf events angularMotorGiven unlessOff stepsOf outside finite3 finite4 bodyFinite finishedBody integrated solverBodyOf warmValue jointFinite preparedFinite pointFinite armsFinite axesFinite totalsFinite totalsOf all concat each after bitsAt numbersAt recordsAt anyCell outOf kindAt editionOf cardOf checks.any checks.offUnit bodyIn modelIn angularMotorIn revoluteIn kindIn linkageOf bodyAt totalsAt startState badNumbers prepared loaded warmStarted preSolve solveNext solvedTo newBody newState stopped tickOf eventsAt signed
 sample-holds = record { done = refl; multipliers = refl }

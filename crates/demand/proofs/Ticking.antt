@@ -1,97 +1,66 @@
 -- Each stage and push of a tick that is not refused is sound.
-use Prim.Native.Nat.{ℕ, suc, _≤_, _<_}
-use native.Mathlib.Omega.{arith}
-use mathlib.Core.Path.{_≡_, refl, sym, subst}
-use mathlib.Core.Bool.{Bool, true, false, not}
-use mathlib.Core.List.{List}
-use lib.ListN.{replicate}
-use lib.Dec.{T, eqb, eqb→eq}
+use Prim.Native.Nat.{ℕ, suc, _<_}
+use mathlib.Core.Path.{_≡_, sym, subst}
+use mathlib.Core.Bool.{true, false, not}
+use mathlib.Core.List.{List, map}
+use lib.ListN.{length, length-map}
+use lib.Dec.{T}
 use lib.Ieee.{Float}
-use lib.Ieee.Fits.{eq→eqb}
-use Rattle.scalar.specs.Arith.{if_then_else_}
+use lib.Ieee.Fits.{and-l, and-r}
+use borrow.Author.Tests.{not-false}
 use Rattle.xpbd_plugin.specs.Joint.{noTotals}
 use Rattle.stages.specs.Steps.{run}
 use Rattle.stages.specs.Any.{solveRun}
 use Rattle.stages.proofs.Sound.{EventSound, All}
 use Rattle.stages.proofs.Faithful.{joint-is-steps, joint-sound}
-use Rattle.card.specs.Layout.{maxJoints}
-use Rattle.card.specs.Loop.{anyTo}
-use Rattle.card.specs.Records.{headerAt}
-use Rattle.card.specs.Checks.{checkOf}
-use Rattle.card.proofs.Accepted.{accepted}
-use Rattle.card_records.specs.State.{checkStateOf, answered}
-use Rattle.card.specs.declared.records.Header.{Header}
+use Rattle.card.specs.Card.{cardOf}
+use Rattle.card.proofs.Bools.{or-left}
+use Rattle.numbers.specs.Lists.{after}
+use Rattle.numbers.proofs.Loops.{after-back}
 use Rattle.tick.specs.Joint.{jointFinite}
-use Rattle.table.specs.Loop.{after}
-use Rattle.table.specs.Tick.{Solved, preparedAt, pairAt, preSolve, solvedAt, putSolved, stop, solveNext, before, newFault, stored, finished, tickAccepted}
+use Rattle.loader.specs.Linkage.{Linkage, jointOf, linkageOf}
+use Rattle.state.specs.State.{badNumbers}
+use Rattle.table.specs.Tick.{Solved, prepared, pair, preSolve, solvedBy, solveNext, solvedTo, solved, newState, stopped}
 use Rattle.table.specs.Run.{tickOf}
-use Rattle.table.proofs.Loops.{after-back}
-use Rattle.table.proofs.Ticking.{card-passed}
 use Rattle.demand.specs.Trace.{solveAt, settingAt, stepsAt, startAt, eventsAt}
+use Rattle.demand.proofs.Checks.{tick-passed}
 use Rattle.demand.proofs.Calm.{solve-calm}
-use Rattle.demand.proofs.Fitting.{pair-fit, before-fit}
+use Rattle.demand.proofs.Fitting.{pair-fit, found-fit}
 use Rattle.demand.proofs.Given.{setting-ok, steps-ok}
 
-pub solve-is-steps : (card : List ℕ) (s : List Float) (j : ℕ) → run (settingAt card s j) (stepsAt card s j) (startAt card s j) ≡ solveRun (solveAt card s j)
-solve-is-steps card s j =
-    let h = headerAt card in
-    joint-is-steps (settingAt card s j) (preparedAt card h s j) (pairAt card h s j (before card h s j .bodies))
+module _ (K : Linkage) (s : List Float) where
+  pub solve-is-steps : (j : ℕ) → run (settingAt K s j) (stepsAt K s j) (startAt K s j) ≡ solveRun (solveAt K s j)
+  solve-is-steps j = joint-is-steps (settingAt K s j) (prepared K s j) (pair K j (solvedTo K s j .bodies))
 
-abbrev Live : Solved → Type 0
-Live σ = T (not (σ .stopped))
+  -- ---- finite at the end: finite after each joint
 
--- ---- not stopped at the end: not stopped before, and each joint's numbers are finite
+  abbrev Live : Solved → Type 0
+  Live σ = T (σ .finite)
 
-module _ (card : List ℕ) (h : Header) (s : List Float) where
-  next-live : (j : ℕ) (σ : Solved) → Live (solveNext card h s j σ) → Live σ × T (jointFinite (solvedAt card h s j (σ .bodies)))
+  next-live : (j : ℕ) (σ : Solved) → Live (solveNext K s j σ) → Live σ × T (jointFinite (solvedBy K s j σ))
   unfolding solveNext
-  next-live j σ k = go (σ .stopped) (jointFinite (solvedAt card h s j (σ .bodies))) refl k
-    where
-      go : (u v : Bool) → σ .stopped ≡ u → Live (if u then σ else if v then putSolved card h s j (solvedAt card h s j (σ .bodies)) σ else stop σ) → Live σ × T v
-      go true v e k = absurd (subst (λ (b : Bool). T (not b)) e k)
-      go false true e k = (subst (λ (b : Bool). T (not b)) (sym e) tt, tt)
-      go false false e k = absurd k
+  next-live j σ k = (and-l (σ .finite) _ k, and-r (σ .finite) _ k)
 
-  before-live : (i n : ℕ) → i ≤ n → Live (before card h s n) → Live (before card h s i)
-  unfolding before
-  before-live i n l k =
-      after-back (solveNext card h s) (record { stopped = false; bodies = preSolve card h s; totals = replicate maxJoints noTotals }) Live (λ j σ m. next-live j σ m .0) i n l k
+  joint-finite : (j : ℕ) → j < length (K .joints) → Live (solved K s) → T (jointFinite (solveAt K s j))
+  unfolding solvedTo after
+  joint-finite j l k =
+      let first : Solved = record { bodies = preSolve K s; totals = map (λ i. noTotals) (K .joints); finite = true } in
+      next-live j (solvedTo K s j) (after-back (solveNext K s) first Live (λ i σ m. next-live i σ m .0) (suc j) (length (K .joints)) l k) .1
 
-  before-next : (j : ℕ) → before card h s (suc j) ≡ solveNext card h s j (before card h s j)
-  unfolding before after
-  before-next j = refl
-
-  joint-finite : (j n : ℕ) → j < n → Live (before card h s n) → T (jointFinite (solvedAt card h s j (before card h s j .bodies)))
-  joint-finite j n l k = next-live j (before card h s j) (subst Live (before-next j) (before-live (suc j) n l k)) .1
-
-  finished-live : (σ : Solved) → finished card h s σ .number ≡ 0 → Live σ
-  unfolding finished
-  finished-live σ e = go (σ .stopped) e
-    where
-      go : (v : Bool) → (if v then answered 13 s else if anyTo (newFault card h s σ) (h .bodies) then answered 13 s else answered 0 (stored card h s σ)) .number ≡ 0 → T (not v)
-      go true e = absurd (omega arith)
-      go false e = tt
+  not-stopped : stopped K s ≡ false → Live (solved K s)
+  unfolding stopped
+  not-stopped e =
+      let finite = solved K s .finite in
+      subst T (sym (not-false finite (or-left (not finite) (badNumbers (length (K .bodies)) (newState K s)) e))) tt
 
 -- ---- the tick
 
--- a tick that is not refused: no check refuses its card, and no joint stops it
-tick-done : (card : List ℕ) (s : List Float) → tickOf card s .number ≡ 0 → (checkOf card ≡ 0) × Live (before card (headerAt card) s (headerAt card .joints))
-unfolding tickOf tickAccepted
-tick-done card s e = go (eqb (checkStateOf card s) 0) (eqb→eq (checkStateOf card s) 0) (λ z. eq→eqb z) e
-  where
-    h : Header
-    h = headerAt card
-
-    go : (v : Bool) → (T v → checkStateOf card s ≡ 0) → (checkStateOf card s ≡ 0 → T v) → (if v then finished card h s (before card h s (h .joints)) else answered (checkStateOf card s) s) .number ≡ 0 → (checkOf card ≡ 0) × Live (before card h s (h .joints))
-    go true k m e = (card-passed card s (k tt), finished-live card h s (before card h s (h .joints)) e)
-    go false k m e = absurd (m e)
-
-pub tick-sound : (card : List ℕ) (s : List Float) → tickOf card s .number ≡ 0 → (j : ℕ) → j < headerAt card .joints → All EventSound (eventsAt card s j)
-unfolding eventsAt
+pub tick-sound : (card : List ℕ) (s : List Float) → tickOf card s .number ≡ 0 → (j : ℕ) → j < length (cardOf card .joints) → All EventSound (eventsAt (linkageOf (cardOf card)) s j)
+unfolding eventsAt linkageOf
 tick-sound card s e j l =
-    let h = headerAt card in
-    let d = tick-done card s e in
-    let a = accepted card (d .0) in
-    let b = before card h s j .bodies in
-    joint-sound (settingAt card s j) (setting-ok card s a j l) (preparedAt card h s j) (steps-ok card s a j l) (pairAt card h s j b) (pair-fit card h s j b (before-fit card h s j))
-    (solve-calm (solveAt card s j) (joint-finite card h s j (h .joints) l (d .1)))
+    let K = linkageOf (cardOf card) in
+    let t = tick-passed card s e in
+    let b = solvedTo K s j .bodies in
+    let n : j < length (K .joints) = rw (length-map (cardOf card .joints) jointOf) l in
+    joint-sound (settingAt K s j) (setting-ok card (t .0) s j l) (prepared K s j) (steps-ok card (t .0) s j l) (pair K j b) (pair-fit K s j b (found-fit K s j))
+    (solve-calm (solveAt K s j) (joint-finite K s j n (not-stopped K s (t .1))))

@@ -1,4 +1,4 @@
--- A tick that demand 3 speaks of, with a stage and a motor at its cap. Definitions only.
+-- A tick that demand 3 speaks of, with a stage and a motor at its cap.
 use Prim.Native.Nat.{ℕ, _/_, _%_}
 use mathlib.Core.Path.{_≡_}
 use mathlib.Core.List.{List, [], _∷_, _++_, map}
@@ -7,8 +7,9 @@ use lib.Ieee.{Float}
 use Rattle.scalar.specs.Arith.{f32, f1}
 use Rattle.stages.specs.Stage.{multiplierOf}
 use Rattle.stages.specs.Steps.{Event, aStage, aPush, pushMultiplier}
-use Rattle.card.specs.Records.{headerAt}
-use Rattle.card_records.specs.State.{startState}
+use Rattle.card.specs.Card.{cardOf}
+use Rattle.loader.specs.Linkage.{linkageOf}
+use Rattle.state.specs.State.{startState}
 use Rattle.table.specs.Run.{tickOf}
 use Rattle.demand.specs.Trace.{eventsAt}
 
@@ -38,7 +39,7 @@ sample =
     ++ floats (zeros 9 ++ one ∷ zeros 3 ++ one ∷ 0 ∷ 0 ∷ one ∷ 0x3b80_0000 ∷ zeros 7 ++ 0x4480_0000 ∷ 0 ∷ 0x4380_0000 ∷ 0 ∷ one ∷ [])
 
 abbrev pub sampleStart : List Float
-sampleStart = startState sample (headerAt sample)
+sampleStart = startState (cardOf sample)
 
 abbrev pub multiplierIn : Event → Float
 multiplierIn (aStage s) = multiplierOf s
@@ -47,4 +48,4 @@ multiplierIn (aPush p) = pushMultiplier (p .given)
 pub record Sample : Type 0 where
   pub done : tickOf sample sampleStart .number ≡ 0
   -- the motor's 1 is its cap times dt dt, and the point's -1 is half of -c / w
-  pub multipliers : map multiplierIn (eventsAt sample sampleStart 0) ≡ f1 ∷ f32 0xbf80_0000 ∷ []
+  pub multipliers : map multiplierIn (eventsAt (linkageOf (cardOf sample)) sampleStart 0) ≡ f1 ∷ f32 0xbf80_0000 ∷ []

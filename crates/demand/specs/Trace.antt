@@ -1,30 +1,27 @@
--- The stages and motor pushes of a tick, joint by joint: document 01, 'What demand 3 speaks of'. Definitions only.
+-- The stages and motor pushes of a tick, joint by joint: document 01, 'What demand 3 speaks of'.
 use Prim.Native.Nat.{ℕ}
 use mathlib.Core.List.{List}
 use lib.Ieee.{Float}
 use Rattle.xpbd_plugin.specs.declared.JointSolved.{JointSolved}
 use Rattle.stages.specs.Steps.{Step, Setting, Run, Event, events}
 use Rattle.stages.specs.Any.{stepsOf, solveStart}
-use Rattle.card.specs.Records.{headerAt, dtOf}
-use Rattle.table.specs.Tick.{inertiasAt, preparedAt, pairAt, solvedAt, before}
+use Rattle.loader.specs.Linkage.{Linkage}
+use Rattle.table.specs.Tick.{inertias, prepared, pair, solvedBy, solvedTo}
 
-module _ (card : List ℕ) (s : List Float) where
+module _ (K : Linkage) (s : List Float) where
   -- joint j's solve, as the tick's definition has it, of what the joints before it left
   abbrev pub solveAt : ℕ → JointSolved
-  solveAt j = let h = headerAt card in solvedAt card h s j (before card h s j .bodies)
+  solveAt j = solvedBy K s j (solvedTo K s j)
 
   -- the same as steps: what stays through them, the steps in order, and where they begin
   abbrev pub settingAt : ℕ → Setting
-  settingAt j =
-      let h = headerAt card in
-      let i = inertiasAt card h s j in
-      record { dt = dtOf h; inertia1 = i .inertia1; inertia2 = i .inertia2 }
+  settingAt j = record { dt = K .dt; inertia1 = inertias K j .inertia1; inertia2 = inertias K j .inertia2 }
 
   abbrev pub stepsAt : ℕ → List Step
-  stepsAt j = stepsOf (preparedAt card (headerAt card) s j)
+  stepsAt j = stepsOf (prepared K s j)
 
   abbrev pub startAt : ℕ → Run
-  startAt j = let h = headerAt card in solveStart (preparedAt card h s j) (pairAt card h s j (before card h s j .bodies))
+  startAt j = solveStart (prepared K s j) (pair K j (solvedTo K s j .bodies))
 
   -- the stages and pushes among them
   unfoldable pub eventsAt : ℕ → List Event

@@ -1,10 +1,11 @@
 // The table's calls for C and Rust: a slice is a pointer and a count. Each answers the refusal's number, 0 for done.
 ghost use mathlib.Core.Path.{_≡_};
 ghost use Rattle.card.specs.Checks.{checkOf};
-ghost use Rattle.card_records.specs.State.{answered, startOf};
+ghost use Rattle.state.specs.State.{answered, startOf, sizesOf};
 ghost use Rattle.table.specs.Run.{tickOf, runOf};
 use card::checks::check;
-use card_records::state::start;
+use state::sizes::sizes;
+use state::start::start;
 use table::run::run;
 use table::run::tick;
 
@@ -13,6 +14,24 @@ pub extern "C" fn linkage_check(card: &[u8]) -> u32
     ensures { λ r. ⌜ r ≡ checkOf (now (card .entry)) ⌝ }
 {
     let answer = check(card);
+    answer.number() as u32
+}
+
+// How many bodies and joints a card has, and how many numbers its state; zeros where it is refused.
+#[no_mangle]
+pub extern "C" fn linkage_sizes(
+    card: &[u8],
+    bodies: &mut u32,
+    joints: &mut u32,
+    numbers: &mut u32,
+) -> u32
+    ensures { λ r. ⌜ record { number = r; bodies = now (bodies .exit); joints = now (joints .exit); state = now (numbers .exit) } ≡ sizesOf (now (card .entry)) ⌝ }
+{
+    let s = sizes(card);
+    *bodies = s.bodies as u32;
+    *joints = s.joints as u32;
+    *numbers = s.state as u32;
+    let answer = s.answer;
     answer.number() as u32
 }
 
@@ -32,10 +51,13 @@ pub extern "C" fn linkage_tick(card: &[u8], state: &mut [f32]) -> u32
     answer.number() as u32
 }
 
+// `done` is how many ticks were made: all, or those before the refused one, of which then none is in the state.
 #[no_mangle]
-pub extern "C" fn linkage_run(card: &[u8], state: &mut [f32], ticks: u32) -> u32
-    ensures { λ r. ⌜ answered r (now (state .exit)) ≡ runOf (now (card .entry)) (now (state .entry)) ticks ⌝ }
+pub extern "C" fn linkage_run(card: &[u8], state: &mut [f32], ticks: u32, done: &mut u32) -> u32
+    ensures { λ r. ⌜ record { number = r; ticks = now (done .exit); state = now (state .exit) } ≡ runOf (now (card .entry)) (now (state .entry)) ticks ⌝ }
 {
-    let answer = run(card, state, ticks);
+    let ran = run(card, state, ticks);
+    *done = ran.ticks;
+    let answer = ran.answer;
     answer.number() as u32
 }

@@ -90,8 +90,6 @@ fn frame2(input: &[f32]) -> JointFrame {
 
 fn fixed(input: &[f32]) -> FixedJoint {
     FixedJoint {
-        body1: 0,
-        body2: 1,
         frame1: frame1(input),
         frame2: frame2(input),
         point_compliance: number(input, 17),
@@ -101,8 +99,6 @@ fn fixed(input: &[f32]) -> FixedJoint {
 
 fn revolute(input: &[f32], limited: bool, motor: u32) -> RevoluteJoint {
     RevoluteJoint {
-        body1: 0,
-        body2: 1,
         frame1: frame1(input),
         frame2: frame2(input),
         hinge_axis: vec3(input, 14),
@@ -116,8 +112,6 @@ fn revolute(input: &[f32], limited: bool, motor: u32) -> RevoluteJoint {
 
 fn prismatic(input: &[f32], limited: bool, motor: u32) -> PrismaticJoint {
     PrismaticJoint {
-        body1: 0,
-        body2: 1,
         frame1: frame1(input),
         frame2: frame2(input),
         slider_axis: vec3(input, 14),
@@ -130,8 +124,6 @@ fn prismatic(input: &[f32], limited: bool, motor: u32) -> PrismaticJoint {
 
 fn spherical(input: &[f32], swing_limited: bool, twist_limited: bool) -> SphericalJoint {
     SphericalJoint {
-        body1: 0,
-        body2: 1,
         frame1: frame1(input),
         frame2: frame2(input),
         twist_axis: vec3(input, 14),
@@ -145,8 +137,6 @@ fn spherical(input: &[f32], swing_limited: bool, twist_limited: bool) -> Spheric
 
 fn distance(input: &[f32]) -> DistanceJoint {
     DistanceJoint {
-        body1: 0,
-        body2: 1,
         anchor1: vec3(input, 0),
         anchor2: vec3(input, 3),
         limits: DistanceLimit {

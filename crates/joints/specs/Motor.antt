@@ -1,12 +1,10 @@
--- A motor's multiplier by its model, both the Rust's own; and the motor of a joint that has none. Definitions only.
-use mathlib.Core.Bool.{false, _&&_}
+-- A motor's multiplier by its model, both the Rust's own. Definitions only.
+use mathlib.Core.Bool.{_&&_}
 use lib.Ieee.{Float, neg, lt, le}
-use Rattle.scalar.specs.Arith.{if_then_else_, _⊕_, _⊗_, _⊘_, f32, f0, f1, f2, epsilon, largest, tau}
+use Rattle.scalar.specs.Arith.{if_then_else_, _⊕_, _⊗_, _⊘_, f0, f1, f2, epsilon, largest, tau}
 use Rattle.scalar.specs.Scalar.{absOf, clampOf}
 use Rattle.joints.specs.declared.motor.MotorModel.{MotorModel}
 use Rattle.joints.specs.declared.motor.MotorModel.the-variants.{SpringDamper, AccelerationBased, ForceBased}
-use Rattle.joints.specs.declared.motor.AngularMotor.{AngularMotor}
-use Rattle.joints.specs.declared.motor.LinearMotor.{LinearMotor}
 use Rattle.joints.specs.declared.motor.MotorLagrange.{MotorLagrange}
 use Rattle.joints.specs.declared.motor.MotorLagrange.the-variants.{None, Some}
 
@@ -35,15 +33,3 @@ unfoldable pub motorLagrange : MotorModel → Float → Float → Float → Floa
 motorLagrange model cap v x w h =
     let correction = velocityChange model v x w h ⊗ h in
     if le (absOf correction) epsilon then None else Some (capped (correction ⊘ w) cap h)
-
--- a critically damped spring of 5 Hz
-abbrev pub defaultModel : MotorModel
-defaultModel = SpringDamper (f32 0x40a0_0000) f1
-
-abbrev pub disabledAngularMotor : AngularMotor
-disabledAngularMotor =
-    record { enabled = false; «target_velocity» = f0; «target_position» = f0; «max_torque» = largest; «motor_model» = defaultModel }
-
-abbrev pub disabledLinearMotor : LinearMotor
-disabledLinearMotor =
-    record { enabled = false; «target_velocity» = f0; «target_position» = f0; «max_force» = largest; «motor_model» = defaultModel }

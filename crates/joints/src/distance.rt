@@ -3,8 +3,6 @@ use crate::DistanceLimit;
 use vector::Vec3;
 
 pub struct DistanceJoint {
-    pub body1: usize,
-    pub body2: usize,
     pub anchor1: Vec3,
     pub anchor2: Vec3,
     pub limits: DistanceLimit,

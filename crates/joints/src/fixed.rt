@@ -2,8 +2,6 @@
 use crate::JointFrame;
 
 pub struct FixedJoint {
-    pub body1: usize,
-    pub body2: usize,
     pub frame1: JointFrame,
     pub frame2: JointFrame,
     pub point_compliance: f32,

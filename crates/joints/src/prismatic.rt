@@ -5,8 +5,6 @@ use crate::motor::LinearMotor;
 use vector::Vec3;
 
 pub struct PrismaticJoint {
-    pub body1: usize,
-    pub body2: usize,
     pub frame1: JointFrame,
     pub frame2: JointFrame,
     pub slider_axis: Vec3,

@@ -5,8 +5,6 @@ use crate::motor::AngularMotor;
 use vector::Vec3;
 
 pub struct RevoluteJoint {
-    pub body1: usize,
-    pub body2: usize,
     pub frame1: JointFrame,
     pub frame2: JointFrame,
     pub hinge_axis: Vec3,

@@ -4,8 +4,6 @@ use crate::JointFrame;
 use vector::Vec3;
 
 pub struct SphericalJoint {
-    pub body1: usize,
-    pub body2: usize,
     pub frame1: JointFrame,
     pub frame2: JointFrame,
     pub twist_axis: Vec3,

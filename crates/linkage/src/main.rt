@@ -1,22 +1,16 @@
 // The linkage table's program: a tick count and a card from standard input, the bodies' poses after each tick to standard output.
-use card::checks::check;
-use card::layout::BODY_NUMBERS;
-use card::layout::JOINT_NUMBERS;
-use card::layout::MAX_BODIES;
-use card::layout::MAX_JOINTS;
-use card::layout::state_length;
-use card::records::Header;
-use card::records::header_at;
-use card_records::state::start;
 use libc::STDIN_FILENO;
 use libc::STDOUT_FILENO;
+use state::places::BODY_NUMBERS;
+use state::sizes::sizes;
+use state::start::start;
 use table::run::tick;
-ghost use mathlib.Core.Path.{_≡_};
 ghost use Prim.Native.Nat.{_+_, _*_, _≤_, _<_};
 ghost use lib.ListN.{length};
-ghost use Rattle.card.specs.Layout.{maxBodies, maxJoints, bodyNumbers, stateLength};
+ghost use Rattle.state.specs.State.{bodyNumbers};
 
-const LARGEST: usize = BODY_NUMBERS * MAX_BODIES + JOINT_NUMBERS * MAX_JOINTS;
+// The state of 255 bodies and 255 joints: no card has more of either.
+const LARGEST: usize = 6375;
 
 // `refused` and the number of the refusal.
 fn print_refusal(number: u8) {
@@ -79,7 +73,7 @@ fn print_pose(tick: u64, body: usize, state: &[f32], at: usize)
 }
 
 fn print_poses(tick: u64, bodies: usize, state: &[f32])
-    requires { ⌜ (bodies ≤ maxBodies) × (bodyNumbers * bodies ≤ length (now state)) ⌝ }
+    requires { ⌜ (bodies ≤ 255) × (bodyNumbers * bodies ≤ length (now state)) ⌝ }
 {
     let mut i = 0;
     while i < bodies {
@@ -90,7 +84,7 @@ fn print_poses(tick: u64, bodies: usize, state: &[f32])
 
 // Ticks up to the first that is refused.
 fn run(card: &[u8], state: &mut [f32], bodies: usize, ticks: u64)
-    requires { ⌜ (bodies ≤ maxBodies) × (bodyNumbers * bodies ≤ length (now state)) ⌝ }
+    requires { ⌜ (bodies ≤ 255) × (bodyNumbers * bodies ≤ length (now state)) ⌝ }
 {
     let mut done = 0;
     while done < ticks {
@@ -107,7 +101,7 @@ fn run(card: &[u8], state: &mut [f32], bodies: usize, ticks: u64)
 
 // From the start state of the card.
 fn start_and_run(card: &[u8], state: &mut [f32], bodies: usize, ticks: u64)
-    requires { ⌜ (bodies ≤ maxBodies) × (bodyNumbers * bodies ≤ length (now state)) ⌝ }
+    requires { ⌜ (bodies ≤ 255) × (bodyNumbers * bodies ≤ length (now state)) ⌝ }
 {
     let answer = start(card, state);
     let number = answer.number();
@@ -118,30 +112,17 @@ fn start_and_run(card: &[u8], state: &mut [f32], bodies: usize, ticks: u64)
     run(card, state, bodies, ticks);
 }
 
-// Room for the largest state.
-fn largest_state() -> [f32; LARGEST]
-    ensures { λ r. ⌜ length r ≡ stateLength maxBodies maxJoints ⌝ }
-{
-    [0.0; LARGEST]
-}
-
-fn run_accepted(card: &[u8], h: Header, ticks: u64)
-    requires { ⌜ (h .bodies ≤ maxBodies) × (h .joints ≤ maxJoints) ⌝ }
-{
-    let bodies = h.bodies;
-    let numbers = state_length(bodies, h.joints);
-    let mut room = largest_state();
-    start_and_run(card, &mut room[..numbers], bodies, ticks);
-}
-
 fn run_card(card: &[u8], ticks: u64) {
-    let answer = check(card);
+    let size = sizes(card);
+    let answer = size.answer;
     let number = answer.number();
-    if number == 0 {
-        run_accepted(card, header_at(card), ticks);
-    } else {
+    if number != 0 {
         print_refusal(number);
+        return;
     }
+    let mut room = [0.0; LARGEST];
+    let numbers = size.state;
+    start_and_run(card, &mut room[..numbers], size.bodies, ticks);
 }
 
 fn ticks_of(high: u8, low: u8) -> u64 {

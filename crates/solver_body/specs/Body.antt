@@ -19,12 +19,7 @@ positionBound = f32 0x4580_0000
 -- among the solver's bodies, not moved yet: deltas zero and identity
 unfoldable pub solverBodyOf : BodyState → SolverBody
 solverBodyOf b =
-    record {
-      «linear_velocity» = b .«linear_velocity»;
-      «angular_velocity» = b .«angular_velocity»;
-      «delta_position» = origin;
-      «delta_rotation» = identity;
-    }
+    record { «linear_velocity» = b .«linear_velocity»; «angular_velocity» = b .«angular_velocity»; «delta_position» = origin; «delta_rotation» = identity }
 
 -- b with the displacement x and the turn q since the step began
 abbrev pub withDelta : SolverBody → Vec3 → Quat → SolverBody

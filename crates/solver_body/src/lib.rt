@@ -25,13 +25,6 @@ pub struct BodyState {
 }
 
 impl BodyState {
-    pub const REST: BodyState = BodyState {
-        position: Vec3::ZERO,
-        rotation: Quat::IDENTITY,
-        linear_velocity: Vec3::ZERO,
-        angular_velocity: Vec3::ZERO,
-    };
-
     pub fn solver_body(self) -> SolverBody
         ensures { λ r. ⌜ r ≡ solverBodyOf self ⌝ }
     {

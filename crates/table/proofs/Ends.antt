@@ -1,84 +1,97 @@
--- The new numbers of the bodies, and what is written of them and of the totals.
-use Prim.Native.Nat.{ℕ, _+_, _*_, _<_}
-use mathlib.Core.Path.{_≡_, refl, ap, _∙_}
-use mathlib.Core.Bool.{Bool, true, false, not}
-use mathlib.Core.List.{List, _++_}
-use lib.ListN.{length, getD, take}
-use lib.Seq.{sets}
-use lib.Ieee.{Float}
+-- The new state: its bodies one by one, its totals as the solve left them.
+use Prim.Native.Nat.{ℕ, zero, suc, _+_, _≤_, _<_}
 use native.Mathlib.Omega.{arith}
-use Rattle.scalar.specs.Arith.{if_then_else_}
-use Rattle.joints.specs.declared.Joint.{Joint}
-use Rattle.solver_body.specs.Body.{dummyBody}
+use mathlib.Core.Path.{_≡_, refl, sym, ap, _∙_}
+use mathlib.Core.Bool.{Bool, true, false, not, _||_}
+use mathlib.Core.List.{List, [], _∷_, map}
+use lib.ListN.{length, getD, set, replicate, length-map, length-set, getD-replicate}
+use lib.Ieee.{Float, nan}
+use Rattle.scalar.specs.Arith.{if_then_else_, f0}
+use Rattle.vector.specs.Vector.{origin}
 use Rattle.solver_body.specs.declared.BodyState.{BodyState}
 use Rattle.solver_body.specs.declared.RigidBody.{RigidBody}
 use Rattle.solver_body.specs.declared.SolverBody.{SolverBody}
 use Rattle.xpbd_plugin.specs.Joint.{noTotals}
 use Rattle.xpbd_plugin.specs.declared.JointTotals.{JointTotals}
 use Rattle.tick.specs.Body.{finishedBody}
-use Rattle.tick.specs.Parts.{restingBody}
-use Rattle.card.specs.Layout.{maxJoints, bodyNumbers, totalsPlace}
-use Rattle.card.specs.Records.{dtOf}
-use Rattle.card.specs.declared.records.Header.{Header}
-use Rattle.card_records.specs.State.{numbers3, numbersOf}
-use Rattle.card_records.proofs.Writes.{sets-append}
-use Rattle.table.specs.Tick.{totalsNumbers, storeTotals, anchoredAt, rigidAt, preSolve, before, newBody, storeBody}
-use Rattle.table.specs.Parts.{rigidIn, finishedOr, storeMoving}
-use Rattle.table.specs.declared.load.TickBody.{TickBody}
-use Rattle.table.proofs.Loops.{getD-in, take-getD}
-use Rattle.table.proofs.Turns.{places, unreadBody, unreadTickBody, unreadState, unreadTotals, Decoded, Running, valid-is, rigid-is}
+use Rattle.numbers.specs.Lists.{each, after}
+use Rattle.numbers.specs.Numbers.{vec3In}
+use Rattle.numbers.proofs.Loops.{after-all}
+use Rattle.numbers.proofs.Rows.{each-is, each-length}
+use Rattle.loader.specs.Linkage.{LinkJoint, Linkage}
+use Rattle.loader.specs.declared.header.Header.{Header}
+use Rattle.state.specs.State.{jointNumbers, stateLength, bodyAt, totalsAt, stateOf, badNumbers}
+use Rattle.state.proofs.Rows.{state-rows, state-length}
+use Rattle.table.specs.Tick.{Solved, body, rigid, preSolve, solveNext, solvedTo, solved, newBody, newState, stopped}
+use Rattle.table.specs.Work.{solverBodyAt, bodiesIn, solvedIn, outcome, StateOf}
+use Rattle.table.proofs.SolverBodies.{body-in}
+use Rattle.table.proofs.Solving.{finite-outcome}
 
-finish-as : (a : Bool) (b : BodyState) → (if not a then b else restingBody) ≡ (if a then restingBody else b)
-finish-as true b = refl
-finish-as false b = refl
+-- ---- totals of zero
 
-store-as : (a : Bool) (b : BodyState) (i : ℕ) (t : List Float)
-    → (if not a then sets t (bodyNumbers * i) (numbersOf (if a then restingBody else b)) else t) ≡ (if a then t else sets t (bodyNumbers * i) (numbersOf b))
-store-as true b i t = refl
-store-as false b i t = refl
+vec3-clear : (n at : ℕ) → at + 3 ≤ n → vec3In (replicate n f0) at ≡ origin
+vec3-clear n at h =
+    rw (getD-replicate n at f0 nan (omega arith), getD-replicate n (at + 1) f0 nan (omega arith), getD-replicate n (at + 2) f0 nan (omega arith))
 
-module _ (card : List ℕ) (h : Header) (s : List Float) where
-  -- body i's new numbers; an anchored one's are not written
-  abbrev pub made : ℕ → BodyState
-  made i = if anchoredAt card i then restingBody else newBody card h s (before card h s (h .joints)) i
+map-same : {A B : Type 0} (b : B) (l : List A) (i : ℕ) → getD (map (λ _. b) l) i b ≡ b
+map-same b [] i = refl
+map-same b (a ∷ l) zero = refl
+map-same b (a ∷ l) (suc i) = map-same b l i
 
-  module _ {table : List TickBody} {held : List Joint} (D : Decoded card h table held) (i : ℕ) (k : i < h .bodies) where
-    abbrev at : TickBody
-    at = getD table i unreadTickBody
+totals-clear : (bodies m n : ℕ) → n ≡ stateLength bodies m → (js : List LinkJoint) → length js ≡ m → each (totalsAt bodies (replicate n f0)) m ≡ map (λ j. noTotals) js
+unfolding totalsAt
+totals-clear bodies m n e js ej =
+    each-is (totalsAt bodies (replicate n f0)) noTotals (map (λ j. noTotals) js) m (length-map js (λ j. noTotals) ∙ ej)
+    (λ i k. cc (
+      vec3-clear n (stateLength bodies i) (omega (arith, e, k)),
+      vec3-clear n (stateLength bodies i + 3) (omega (arith, e, k)),
+      vec3-clear n (stateLength bodies i + 6) (omega (arith, e, k)),
+      vec3-clear n (stateLength bodies i + 9) (omega (arith, e, k)),
+      map-same noTotals js i,
+    ))
 
-    pub finish-is : {bodies : List SolverBody} (pre : List SolverBody) {totals : List JointTotals} → Running card h s (h .joints) bodies totals → length bodies ≡ places
-        → take (h .bodies) pre ≡ take (h .bodies) (preSolve card h s) → length pre ≡ places → {dt : Float} → dt ≡ dtOf h
-        → {r : RigidBody} → r ≡ rigidIn s i (at .«center_of_mass») → {b : BodyState} → b ≡ finishedOr (at .index) r (getD pre i unreadBody) (getD bodies i unreadBody) dt
-        → b ≡ made i
-    unfolding finishedOr newBody
-    finish-is {bodies} pre R lb ep lp ed er eb =
-        let σ = before card h s (h .joints) in
-        let short : i < places = omega (arith, k, D .sound .few-bodies) in
-        let b₁ = getD-in pre i unreadBody dummyBody (rw lp short) ∙ take-getD (h .bodies) pre (preSolve card h s) ep dummyBody i k in
-        let b₂ = getD-in bodies i unreadBody dummyBody (rw lb short) ∙ take-getD (h .bodies) bodies (σ .bodies) (R .bodies-as) dummyBody i k in
-        eb
-        ∙ rw (valid-is card h s D i k, b₁, b₂, ed, rigid-is card h s D i k er)
-        (finish-as (anchoredAt card i) (finishedBody (rigidAt card s i) (getD (preSolve card h s) i dummyBody) (getD (σ .bodies) i dummyBody) (dtOf h)))
+module _ (K : Linkage) (s : List Float) (h : Header) (nb : length (K .bodies) ≡ h .bodies) (nj : length (K .joints) ≡ h .joints) where
+  -- the solve, from where it begins
+  pub solved-is : (w t : List Float) {n : ℕ} → bodiesIn h w ≡ preSolve K s → t ≡ replicate n f0 → n ≡ stateLength (h .bodies) (h .joints) → {σ : Solved}
+      → σ ≡ outcome (after (solveNext K s) (solvedIn h true w t) (h .joints)) → σ ≡ outcome (solved K s)
+  unfolding solvedTo
+  solved-is w t {n} ew et en e = e ∙ rw (ew, et, totals-clear (h .bodies) (h .joints) n en (K .joints) nj, nj)
 
-    pub write-is : (new : List BodyState) → getD new i unreadState ≡ made i → (t : List Float)
-        → storeMoving (at .index) (getD new i unreadState) i t ≡ storeBody card h s (before card h s (h .joints)) i t
-    write-is new e t = rw (valid-is card h s D i k, e) (store-as (anchoredAt card i) (newBody card h s (before card h s (h .joints)) i) i t)
+  pub new-is : (i : ℕ) (pre bodies : List Float) → i < h .bodies → bodiesIn h pre ≡ preSolve K s → bodiesIn h bodies ≡ solved K s .bodies
+      → {a : Bool} → a ≡ body K i .anchored → a ≡ false → {r : RigidBody} {p q : SolverBody} {dt : Float} {b : BodyState} → r ≡ rigid K s i → p ≡ solverBodyAt pre i → q ≡ solverBodyAt bodies i
+      → dt ≡ K .dt → b ≡ finishedBody r p q dt → b ≡ newBody K s i
+  unfolding newBody
+  new-is i pre bodies k ep eb ea f er e₁ e₂ ed e =
+      let g : body K i .anchored ≡ false = sym ea ∙ f in
+      rw g (e ∙ rw (er, e₁, e₂, ed, ← ep, ← eb, body-in h pre i k, body-in h bodies i k))
 
--- ---- the totals
+  pub still-is : (i : ℕ) {a : Bool} → a ≡ body K i .anchored → a ≡ true → {b : BodyState} → b ≡ bodyAt s i → b ≡ newBody K s i
+  unfolding newBody
+  still-is i ea t e = let g : body K i .anchored ≡ true = sym ea ∙ t in rw g e
 
--- a joint's four totals, one behind the other
-pub totals-written : (u : JointTotals) (s : List Float) (at : ℕ) {s₁ s₂ s₃ s₄ : List Float}
-    → s₁ ≡ sets s at (numbers3 (u .first)) → s₂ ≡ sets s₁ (at + 3) (numbers3 (u .second)) → s₃ ≡ sets s₂ (at + 6) (numbers3 (u .third))
-    → s₄ ≡ sets s₃ (at + 9) (numbers3 (u .fourth)) → s₄ ≡ sets s at (totalsNumbers u)
-totals-written u s at e₁ e₂ e₃ e₄ =
-    let n₁ = numbers3 (u .first) in
-    let n₂ = numbers3 (u .second) in
-    let n₃ = numbers3 (u .third) in
-    let n₄ = numbers3 (u .fourth) in
-    let f₂ = e₂ ∙ ap (λ (t : List Float). sets t (at + 3) n₂) e₁ ∙ sets-append s at n₁ n₂ in
-    let f₃ = e₃ ∙ ap (λ (t : List Float). sets t (at + 6) n₃) f₂ ∙ sets-append s at (n₁ ++ n₂) n₃ in
-    e₄ ∙ ap (λ (t : List Float). sets t (at + 9) n₄) f₃ ∙ sets-append s at (n₁ ++ n₂ ++ n₃) n₄
+  -- ---- what a tick answers
 
-pub totals-turn : (bodies : ℕ) (totals : List JointTotals) (j : ℕ) → j < maxJoints → length totals ≡ maxJoints → (s : List Float) {t : List Float}
-    → t ≡ sets s (totalsPlace bodies j) (totalsNumbers (getD totals j unreadTotals)) → t ≡ storeTotals bodies totals j s
-totals-turn bodies totals j h e s et = rw (et, getD-in totals j unreadTotals noTotals (rw e h))
+  pub new-state : (t : List Float) → StateOf h t → each (bodyAt t) (h .bodies) ≡ each (newBody K s) (h .bodies) → each (totalsAt (h .bodies) t) (h .joints) ≡ solved K s .totals
+      → t ≡ newState K s
+  unfolding newState
+  new-state t e eb et = state-rows t (h .bodies) (h .joints) e ∙ rw (eb, et, nb)
+
+  pub tick-stops : (σ : Solved) → σ .finite ≡ false → outcome σ ≡ outcome (solved K s) → true ≡ stopped K s
+  unfolding stopped
+  tick-stops σ f e = let g : solved K s .finite ≡ false = sym (finite-outcome σ (solved K s) e) ∙ f in rw g
+
+  pub tick-goes : (σ : Solved) → σ .finite ≡ true → outcome σ ≡ outcome (solved K s) → {t : List Float} → t ≡ newState K s → {r : Bool} → r ≡ badNumbers (h .bodies) t → r ≡ stopped K s
+  unfolding stopped
+  tick-goes σ f e et er = let g : solved K s .finite ≡ true = sym (finite-outcome σ (solved K s) e) ∙ f in rw (g, nb, er, et)
+
+-- ---- the new state's length
+
+totals-length : (K : Linkage) (s : List Float) → length (solved K s .totals) ≡ length (K .joints)
+unfolding solvedTo solveNext
+totals-length K s =
+    after-all (solveNext K s) _ (λ σ. length (σ .totals) ≡ length (K .joints)) (length (K .joints)) (length-map (K .joints) (λ j. noTotals)) (λ i σ _ e. length-set (σ .totals) i _ ∙ e)
+
+pub new-length : (K : Linkage) (s : List Float) → length (newState K s) ≡ stateLength (length (K .bodies)) (length (K .joints))
+unfolding newState
+new-length K s =
+    state-length (each (newBody K s) (length (K .bodies))) (solved K s .totals) ∙ rw (each-length (newBody K s) (length (K .bodies)), totals-length K s)

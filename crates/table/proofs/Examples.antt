@@ -1,26 +1,24 @@
--- The tick of document 01's example card: all is computed.
+-- Document 01's example line holds: all is computed.
 use mathlib.Core.Path.{refl}
 use lib.Ieee.{ofBits, ofFields, ofInt, add, sub, mul, div, neg, sum, round, units, odd, size, span, climb, le, lt, eq}
 use Rattle.scalar.specs.Scalar.{isFinite, outside}
 use Rattle.root.specs.Root.{rootOf, rootUnits, floorRoot, digits}
-use Rattle.vector.specs.Vector.{addOf, subOf, scaleOf, divOf, dotOf, crossOf, lengthSquaredOf, lengthOf}
-use Rattle.vector.specs.Rotation.{vectorPart, productOf, inverseOf, normalized, dividedBy, normOf, turnOf, ofScaledAxis}
+use Rattle.vector.specs.Vector.{addOf, subOf, negOf, scaleOf, divOf, crossOf, dotOf, lengthSquaredOf, lengthOf}
+use Rattle.vector.specs.Rotation.{normalized, dividedBy, normOf, productOf, inverseOf, vectorPart, turnOf, ofScaledAxis}
 use Rattle.solver_body.specs.Body.{solverBodyOf, unlocked}
-use Rattle.xpbd_plugin.specs.Plugin.{angularProjected, angularChange, linearProjected}
-use Rattle.card.specs.Bits.{bits16, bits24, bits32, floatAt, vec3At, quatAt}
-use Rattle.card.specs.Loop.{anyTo}
-use Rattle.card.specs.Fields.{floatIn, floatOf, outOf}
-use Rattle.card.specs.Records.{headerAt, bodyBits, dtOf}
+use Rattle.xpbd_plugin.specs.Plugin.{angularChange}
+use Rattle.tick.specs.Body.{integrated, finishedBody}
+use Rattle.numbers.specs.Lists.{all, concat, each, after}
+use Rattle.card.specs.Format.{bitsAt, numbersAt, recordsAt, anyCell, outOf}
+use Rattle.card.specs.Card.{editionOf, cardOf}
 use Rattle.card.specs.Checks as checks
-use Rattle.card_records.specs.Decode.{tensorAt, signed, movingInertia, inertiaAt, centerOfMassAt, bodyAt}
-use Rattle.card_records.specs.State.{checkStateOf, orElse, stateFault, numberFault, boundOf, startState, startTo}
-use Rattle.tick.specs.Finite.{finite3, finite4}
-use Rattle.tick.specs.Body.{bodyFault, tooFar, finishedBody, projected, integrated, unlockedVelocity}
-use Rattle.table.specs.Loop.{after}
-use Rattle.table.specs.Tick.{tickAccepted, finished, newFault, newBody, rigidAt, bodyStateAt, preSolve, warmStarted, loaded, stored, before}
+use Rattle.card.specs.Examples.{exampleCard}
+use Rattle.loader.specs.Linkage.{bodyIn, linkageOf}
+use Rattle.state.specs.State.{bodyAt, startState, badNumbers}
+use Rattle.table.specs.Tick.{loaded, warmStarted, preSolve, solvedTo, newBody, newState, stopped}
 use Rattle.table.specs.Run.{tickOf, tickNext, runOf}
 use Rattle.table.specs.Examples.{Examples}
 
 pub examples : Examples
-unfolding ofBits ofFields ofInt add sub mul div neg sum round units odd size span climb le lt eq isFinite rootOf rootUnits floorRoot digits addOf subOf scaleOf divOf dotOf crossOf lengthSquaredOf lengthOf vectorPart productOf inverseOf normalized dividedBy normOf turnOf ofScaledAxis unlocked angularProjected angularChange linearProjected bits16 bits24 bits32 floatAt vec3At quatAt anyTo floatIn floatOf outside outOf headerAt bodyBits dtOf checks.countsFault checks.rateFault checks.bodyBitsFault checks.unusedSet checks.outOfRange checks.offUnit checks.rotationFault checks.headerFault checks.bodyFault checks.recordFault checks.checkOf tensorAt signed movingInertia inertiaAt centerOfMassAt bodyAt checkStateOf orElse stateFault numberFault boundOf startState startTo finite3 finite4 bodyFault tooFar finishedBody projected integrated unlockedVelocity solverBodyOf after tickAccepted finished newFault newBody rigidAt bodyStateAt preSolve warmStarted loaded stored before tickOf tickNext runOf
-examples = record { done = refl; pose = refl }
+unfolding ofBits ofFields ofInt add sub mul div neg sum round units odd size span climb le lt eq isFinite outside rootOf rootUnits floorRoot digits addOf subOf negOf scaleOf divOf crossOf dotOf lengthSquaredOf lengthOf normalized dividedBy normOf productOf inverseOf vectorPart turnOf ofScaledAxis solverBodyOf unlocked angularChange integrated finishedBody all concat each after bitsAt numbersAt recordsAt anyCell outOf editionOf cardOf checks.any checks.offUnit bodyIn linkageOf bodyAt startState badNumbers loaded warmStarted preSolve solvedTo newBody newState stopped tickOf tickNext runOf
+examples = record { done = refl; ticks = refl; pose = refl }

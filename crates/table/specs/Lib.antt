@@ -1,5 +1,4 @@
-pub mod Loop
 pub mod Tick
 pub mod Run
-pub mod Parts
+pub mod Work
 pub mod Examples

@@ -1,5 +1,5 @@
 // Ticks of a card: the public calls `tick` and `run`.
-mod load;
+mod joint;
 pub mod run;
-mod solve;
-mod store;
+mod steps;
+mod work;

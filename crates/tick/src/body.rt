@@ -1,11 +1,8 @@
 // A moving body in a tick, but for its joints.
 ghost use mathlib.Core.Path.{_≡_};
-ghost use Rattle.tick.specs.Body.{unlockedVelocity, integrated, projected, finishedBody, tooFar, bodyFault};
-use crate::finite::quat_finite;
-use crate::finite::vec3_finite;
-use scalar::outside;
+ghost use Rattle.tick.specs.Body.{integrated, finishedBody};
+ghost use Rattle.tick.specs.Parts.{unlockedVelocity, projected};
 use solver_body::BodyState;
-use solver_body::POSITION_BOUND;
 use solver_body::RigidBody;
 use solver_body::SolverBody;
 use solver_body::SolverBodyInertia;
@@ -14,23 +11,6 @@ use vector::Quat;
 use vector::Vec3;
 use xpbd_plugin::project_angular_velocity;
 use xpbd_plugin::project_linear_velocity;
-
-fn too_far(x: f32) -> bool
-    ensures { λ r. ⌜ r ≡ tooFar x ⌝ }
-{
-    outside(x, -POSITION_BOUND, POSITION_BOUND)
-}
-
-// Whether a number is not finite, or a coordinate is over 4,096 in size. The tests are joined as in finite.rt.
-pub fn body_fault(b: BodyState) -> bool
-    ensures { λ r. ⌜ r ≡ bodyFault b ⌝ }
-{
-    let finite = vec3_finite(b.position)
-        & quat_finite(b.rotation)
-        & vec3_finite(b.linear_velocity)
-        & vec3_finite(b.angular_velocity);
-    !finite | too_far(b.position.x) | too_far(b.position.y) | too_far(b.position.z)
-}
 
 fn unlocked_velocity(inertia: SolverBodyInertia, velocity: Vec3) -> Vec3
     ensures { λ r. ⌜ r ≡ unlockedVelocity inertia velocity ⌝ }

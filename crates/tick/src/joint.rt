@@ -2,7 +2,7 @@
 ghost use mathlib.Core.Path.{_≡_};
 ghost use Rattle.vector.specs.Vector.{origin};
 ghost use Rattle.joints.specs.declared.Joint.the-variants as kind;
-ghost use Rattle.xpbd_plugin.specs.Joint.{jointPrepared, jointWarmStarted, jointSolved};
+ghost use Rattle.xpbd_plugin.specs.Joint.{jointPrepared, jointWarmed, jointSolved};
 ghost use Rattle.tick.specs.Joint.{warmValue, armsFinite, pointFinite, axesFinite, totalsFinite};
 ghost use Rattle.tick.specs.Parts.{resultOf, keptOf, testedOf};
 use crate::finite::body_finite;
@@ -339,7 +339,7 @@ pub fn warm_start_joint(
     inertia2: SolverBodyInertia,
     warm_start_coefficient: f32,
 ) -> BodyPair
-    ensures { λ r. ⌜ r ≡ jointWarmStarted (jointPrepared joint body1 body2 «warm_value») bodies inertia1 inertia2 «warm_start_coefficient» .bodies ⌝ }
+    ensures { λ r. ⌜ r ≡ jointWarmed (jointPrepared joint body1 body2 «warm_value») bodies inertia1 inertia2 «warm_start_coefficient» ⌝ }
 {
     match joint {
         Joint::Fixed(_) => bodies,

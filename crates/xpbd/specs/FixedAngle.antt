@@ -18,10 +18,7 @@ rotationDifference q₀ q₁ q₂ = scaleOf (vectorPart (productOf (productOf q�
 
 unfoldable pub anglePrepared : Quat → Quat → Quat → Quat → FixedAngleConstraintShared
 anglePrepared q₁ q₂ basis₁ basis₂ =
-    record {
-      «rotation_difference» = productOf (productOf q₁ basis₁) (inverseOf (productOf q₂ basis₂));
-      «total_lagrange» = origin;
-    }
+    record { «rotation_difference» = productOf (productOf q₁ basis₁) (inverseOf (productOf q₂ basis₂)); «total_lagrange» = origin }
 
 abbrev pub angleCorrected : FixedAngleConstraintShared → Corrected → FixedAngleSolved
 angleCorrected k s =

@@ -14,12 +14,7 @@ use Rattle.xpbd.specs.declared.point_constraint.PointSolved.{PointSolved
 
 unfoldable pub pointPrepared : RigidBody → RigidBody → Vec3 → Vec3 → PointConstraintShared
 pointPrepared b₁ b₂ anchor₁ anchor₂ =
-    record {
-      «world_r1» = anchorArm b₁ anchor₁;
-      «world_r2» = anchorArm b₂ anchor₂;
-      «center_difference» = centerDifference b₁ b₂;
-      «total_lagrange» = origin;
-    }
+    record { «world_r1» = anchorArm b₁ anchor₁; «world_r2» = anchorArm b₂ anchor₂; «center_difference» = centerDifference b₁ b₂; «total_lagrange» = origin }
 
 abbrev pub pointCorrected : PointConstraintShared → Corrected → PointSolved
 pointCorrected k s =

@@ -68,10 +68,7 @@ withTotals k angle position motor w =
 
 abbrev pub warmed : PrismaticJointSolverData → BodyPair → PrismaticSolved
 warmed k b =
-    record {
-      «solver_data» = withTotals k (k .«angle_constraint») (k .«total_position_lagrange») (k .«total_motor_lagrange») f0;
-      bodies = b;
-    }
+    record { «solver_data» = withTotals k (k .«angle_constraint») (k .«total_position_lagrange») (k .«total_motor_lagrange») f0; bodies = b }
 
 unfoldable pub prismaticWarmStarted : PrismaticJoint → PrismaticJointSolverData → BodyPair → SolverBodyInertia → SolverBodyInertia → Float → PrismaticSolved
 prismaticWarmStarted j k b i₁ i₂ coefficient =

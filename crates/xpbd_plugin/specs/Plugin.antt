@@ -2,12 +2,11 @@
 use lib.Ieee.{Float, lt}
 use lib.Signed.{ltZ}
 use Rattle.scalar.specs.Arith.{if_then_else_, f0, f2}
-use Rattle.vector.specs.Vector.{addOf, subOf, negOf, scaleOf, divOf}
-use Rattle.vector.specs.Rotation.{productOf, inverseOf, vectorPart}
+use Rattle.vector.specs.Vector.{negOf, scaleOf, divOf}
+use Rattle.vector.specs.Rotation.{vectorPart}
 use Rattle.vector.specs.declared.Vec3.{Vec3}
 use Rattle.vector.specs.declared.Quat.{Quat}
-use Rattle.solver_body.specs.Body.{withVelocity, dummyInertia}
-use Rattle.solver_body.specs.declared.SolverBody.{SolverBody}
+use Rattle.solver_body.specs.Body.{dummyInertia}
 use Rattle.solver_body.specs.declared.SolverBodyInertia.{SolverBodyInertia}
 use Rattle.xpbd_plugin.specs.declared.InertiaPair.{InertiaPair}
 
@@ -18,18 +17,8 @@ dominatedOf i₁ i₂ =
     else if ltZ (i₁ .dominance) (i₂ .dominance) then record { inertia1 = i₁; inertia2 = dummyInertia }
     else record { inertia1 = i₁; inertia2 = i₂ }
 
--- v + (x - x₀) / h, with x₀ as it was before the joints' solve
-unfoldable pub linearProjected : SolverBody → Vec3 → Float → SolverBody
-linearProjected b x₀ h =
-    withVelocity b (addOf (b .«linear_velocity») (divOf (subOf (b .«delta_position») x₀) h)) (b .«angular_velocity»)
-
 -- ω = 2 Δq.xyz / h, negated where Δq.w < 0
 unfoldable pub angularChange : Quat → Float → Vec3
 angularChange Δq h =
     let ω = divOf (scaleOf (vectorPart Δq) f2) h in
     if lt (Δq .w) f0 then negOf ω else ω
-
--- with Δq = q q₀⁻¹, and q₀ as it was before the joints' solve
-unfoldable pub angularProjected : SolverBody → Quat → Float → SolverBody
-angularProjected b q₀ h =
-    withVelocity b (b .«linear_velocity») (addOf (b .«angular_velocity») (angularChange (productOf (b .«delta_rotation») (inverseOf q₀)) h))

@@ -47,6 +47,7 @@ fn compare_leaves(list: &[Leaf], options: &Options, hits: &mut Hits) -> Compared
     for leaf in list {
         let begun = Instant::now();
         let compared = leaf.compare(host::answer, options.seed, options.count, hits)?;
+        hits.count(format!("inputs of {}", leaf.name), compared);
         let seconds = begun.elapsed().as_secs_f32();
         println!("{}: {compared} inputs equal ({seconds:.1} s)", leaf.name);
     }
@@ -60,16 +61,17 @@ fn compare_tables(what: &str, options: &Options, hits: &mut Hits) -> Compared {
     };
     let begun = Instant::now();
     let (seed, count) = (options.seed, options.count);
-    let equal = match what {
-        "cards" => format!("{} cards", tables.cards(seed, count, hits)?),
-        "runs" => {
-            let ticks = tables.runs(seed, count, hits)?;
-            format!("{ticks} ticks of {count} runs")
-        }
-        _ => format!("{} states", tables.states(seed, count, hits)?),
+    let (compared, of) = match what {
+        "cards" => (tables.cards(seed, count, hits)?, "cards".to_string()),
+        "runs" => (
+            tables.runs(seed, count, hits)?,
+            format!("ticks of {count} runs"),
+        ),
+        _ => (tables.states(seed, count, hits)?, "states".to_string()),
     };
+    hits.count("compared", compared);
     let seconds = begun.elapsed().as_secs_f32();
-    println!("{what}: {equal} equal ({seconds:.1} s)");
+    println!("{what}: {compared} {of} equal ({seconds:.1} s)");
     Ok(())
 }
 

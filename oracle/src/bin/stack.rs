@@ -1,4 +1,4 @@
-//! The deepest stack of the Rattle's four calls, as a table in Markdown: `stack LIBRARY`.
+//! The deepest stack of the Rattle's calls, as a table in Markdown: `stack LIBRARY`.
 //!
 //! Two figures for each call, both from the caller's stack pointer, return address and all. Measured: the call runs on a stack of its own that is filled with
 //! a pattern, and the lowest byte that it wrote is looked for; that covers the ways that were taken. From the code: the disassembly (objdump) gives how deep
@@ -20,10 +20,10 @@ const WORDS: usize = 1 << 14;
 ///
 /// # Safety
 /// The function takes the arguments by C's rules, or fewer of them.
-unsafe fn depth(stack: &mut [u128], pattern: u8, function: usize, arguments: [usize; 5]) -> usize {
+unsafe fn depth(stack: &mut [u128], pattern: u8, function: usize, arguments: [usize; 6]) -> usize {
     let pattern = u128::from_ne_bytes([pattern; 16]);
     stack.fill(pattern);
-    let [a, b, c, d, e] = arguments;
+    let [a, b, c, d, e, f] = arguments;
     // A function of C keeps r12 and leaves the stack pointer as it was.
     asm!(
         "mov r12, rsp",
@@ -38,6 +38,7 @@ unsafe fn depth(stack: &mut [u128], pattern: u8, function: usize, arguments: [us
         in("rdx") c,
         in("rcx") d,
         in("r8") e,
+        in("r9") f,
         clobber_abi("C"),
     );
     let untouched = stack.iter().take_while(|word| **word == pattern).count();
@@ -46,17 +47,26 @@ unsafe fn depth(stack: &mut [u128], pattern: u8, function: usize, arguments: [us
     16 * (stack.len() - untouched) - changed.iter().take_while(|byte| **byte == 0).count()
 }
 
+const CALLS: [&str; 5] = [
+    "linkage_check",
+    "linkage_sizes",
+    "linkage_start",
+    "linkage_tick",
+    "linkage_run",
+];
+
 /// The deepest of each call over random cards and states: linkages of up to 32 joints of all kinds with limits and motors, single joints in any pose,
 /// numbers anywhere in their ranges, and damaged cards.
-fn measured(cases: u64) -> [usize; 4] {
+fn measured(cases: u64) -> [usize; CALLS.len()] {
     let functions = [
         host::linkage_check as *const () as usize,
+        host::linkage_sizes as *const () as usize,
         host::linkage_start as *const () as usize,
         host::linkage_tick as *const () as usize,
         host::linkage_run as *const () as usize,
     ];
     let mut stack = vec![0; WORDS];
-    let mut deepest = [0; 4];
+    let mut deepest = [0; CALLS.len()];
     for case in 0..cases {
         let random = &mut Random::of_case(1, case);
         let card = match case % 4 {
@@ -73,14 +83,19 @@ fn measured(cases: u64) -> [usize; 4] {
             true => table::start_state(&card),
             false => generate::state(random, &card),
         };
-        for (function, deepest) in functions.iter().zip(&mut deepest) {
+        for ((name, function), deepest) in CALLS.iter().zip(functions).zip(&mut deepest) {
             // A byte that is written as it was in one pattern shows in the other.
             for pattern in [0x5a, 0xa5] {
                 let mut numbers = state.clone();
-                let at = [bytes.as_ptr() as usize, numbers.as_mut_ptr() as usize];
-                let arguments = [at[0], bytes.len(), at[1], numbers.len(), 20];
-                // SAFETY: all four begin with the card, then comes the state, and run's ticks are last; both slices live through the call.
-                let depth = unsafe { depth(&mut stack, pattern, *function, arguments) };
+                let mut counts = [0u32; 3];
+                let [a, b, c] = counts.each_mut().map(|count| count as *mut u32 as usize);
+                let (from, to) = (bytes.as_ptr() as usize, numbers.as_mut_ptr() as usize);
+                let arguments = match *name {
+                    "linkage_sizes" => [from, bytes.len(), a, b, c, 0],
+                    _ => [from, bytes.len(), to, numbers.len(), 20, a],
+                };
+                // SAFETY: card, state and counts live through the call. But for sizes, a call takes the first of card, state, ticks and count.
+                let depth = unsafe { depth(&mut stack, pattern, function, arguments) };
                 *deepest = depth.max(*deepest);
             }
         }
@@ -280,13 +295,7 @@ fn main() {
         .collect();
     println!("| call | bytes, measured | bytes, from the code | the deepest way, with what each function adds |");
     println!("|---|---:|---:|---|");
-    let calls = [
-        "linkage_check",
-        "linkage_start",
-        "linkage_tick",
-        "linkage_run",
-    ];
-    for (name, measured) in calls.iter().zip(measured(4000)) {
+    for (name, measured) in CALLS.iter().zip(measured(4000)) {
         let (depth, way) = deepest(&functions, name, &[]);
         let way: Vec<String> = way
             .iter()

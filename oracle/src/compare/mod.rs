@@ -4,6 +4,7 @@ pub mod leaves;
 pub mod shrink;
 pub mod tables;
 
+use crate::table::{Ran, Sizes};
 use std::collections::BTreeMap;
 use std::fmt::Write;
 
@@ -15,17 +16,19 @@ pub fn all_same(a: &[f32], b: &[f32]) -> bool {
     a.len() == b.len() && a.iter().zip(b).all(|(a, b)| same(*a, *b))
 }
 
-/// The table's calls, of either side. An answer is 0 or a refusal's number.
+/// The table's calls, of either side. An answer's number is 0 or a refusal's.
 #[derive(Clone, Copy)]
 pub struct Table {
     pub check: fn(&[u8]) -> u32,
+    pub sizes: fn(&[u8]) -> Sizes,
     pub start: fn(&[u8], &mut [f32]) -> u32,
     pub tick: fn(&[u8], &mut [f32]) -> u32,
-    pub run: fn(&[u8], &mut [f32], u32) -> u32,
+    pub run: fn(&[u8], &mut [f32], u32) -> Ran,
 }
 
 pub const ORACLE: Table = Table {
     check: crate::table::check,
+    sizes: crate::table::sizes,
     start: crate::table::start,
     tick: crate::table::tick,
     run: crate::table::run,
@@ -36,8 +39,12 @@ pub const ORACLE: Table = Table {
 pub struct Hits(BTreeMap<String, u64>);
 
 impl Hits {
+    pub fn count(&mut self, class: impl Into<String>, times: u64) {
+        *self.0.entry(class.into()).or_insert(0) += times;
+    }
+
     pub fn look(&mut self, class: impl Into<String>, found: bool) {
-        *self.0.entry(class.into()).or_insert(0) += found as u64;
+        self.count(class, found as u64);
     }
 
     pub fn hit(&mut self, class: impl Into<String>) {

@@ -1,6 +1,6 @@
-//! Cards, runs and states: both tables' check, start, tick and run on the same bytes and numbers.
+//! Cards, runs and states: both tables' check, sizes, start, tick and run on the same bytes and numbers.
 
-use super::{all_same, in_hex, number_bytes, shrink, Difference, Hits, Table};
+use super::{in_hex, number_bytes, shrink, Difference, Hits, Table};
 use crate::card::{self, Card, BODY_NUMBERS, JOINT_NUMBERS, KINDS};
 use crate::generate::{self, Random};
 use crate::table;
@@ -14,21 +14,54 @@ const MARK: f32 = -12345.678;
 #[derive(Clone, Copy, Debug)]
 enum Call {
     Check,
+    Sizes,
     Start,
     Tick,
     Run(u32),
 }
 
-/// The answer of a call, and the state after it.
-fn answer(table: &Table, call: Call, card: &[u8], state: &[f32]) -> (u32, Vec<f32>) {
+/// The number that a call answers, the counts that it writes, and the state after it.
+struct Answer {
+    number: u32,
+    counts: Vec<u32>,
+    state: Vec<f32>,
+}
+
+impl Answer {
+    /// Bit for bit: a state that is left as it was may have any NaN.
+    fn same(&self, other: &Answer) -> bool {
+        let bits = |answer: &Answer| number_bytes(&answer.state);
+        self.number == other.number && self.counts == other.counts && bits(self) == bits(other)
+    }
+
+    /// The number and the counts.
+    fn words(&self) -> String {
+        let counts = self.counts.iter().map(|count| format!(" {count}"));
+        format!("{}{}", self.number, counts.collect::<String>())
+    }
+}
+
+fn answer(table: &Table, call: Call, card: &[u8], state: &[f32]) -> Answer {
     let mut state = state.to_vec();
-    let number = match call {
-        Call::Check => (table.check)(card),
-        Call::Start => (table.start)(card, &mut state),
-        Call::Tick => (table.tick)(card, &mut state),
-        Call::Run(ticks) => (table.run)(card, &mut state, ticks),
+    let (number, counts) = match call {
+        Call::Check => ((table.check)(card), vec![]),
+        Call::Sizes => {
+            let sizes = (table.sizes)(card);
+            let counts = vec![sizes.bodies, sizes.joints, sizes.numbers];
+            (sizes.number, counts)
+        }
+        Call::Start => ((table.start)(card, &mut state), vec![]),
+        Call::Tick => ((table.tick)(card, &mut state), vec![]),
+        Call::Run(ticks) => {
+            let ran = (table.run)(card, &mut state, ticks);
+            (ran.number, vec![ran.done])
+        }
     };
-    (number, state)
+    Answer {
+        number,
+        counts,
+        state,
+    }
 }
 
 pub struct Tables {
@@ -37,40 +70,40 @@ pub struct Tables {
 }
 
 impl Tables {
+    fn answers(&self, call: Call, card: &[u8], state: &[f32]) -> [Answer; 2] {
+        [&self.oracle, &self.rattle].map(|table| answer(table, call, card, state))
+    }
+
     fn differs(&self, call: Call, card: &[u8], state: &[f32]) -> bool {
-        let (number, after) = answer(&self.oracle, call, card, state);
-        let (other_number, other_after) = answer(&self.rattle, call, card, state);
-        number != other_number || !all_same(&after, &other_after)
+        let [oracle, rattle] = self.answers(call, card, state);
+        !oracle.same(&rattle)
     }
 
     /// The oracle's answer, or the difference.
-    fn both(
-        &self,
-        call: Call,
-        card: &[u8],
-        state: &[f32],
-    ) -> Result<(u32, Vec<f32>), Box<Difference>> {
-        match self.differs(call, card, state) {
-            true => Err(Box::new(self.difference(call, card, state))),
-            false => Ok(answer(&self.oracle, call, card, state)),
+    fn both(&self, call: Call, card: &[u8], state: &[f32]) -> Result<Answer, Box<Difference>> {
+        let [oracle, rattle] = self.answers(call, card, state);
+        match oracle.same(&rattle) {
+            true => Ok(oracle),
+            false => Err(Box::new(self.difference(call, card, state))),
         }
     }
 
     fn difference(&self, call: Call, bytes: &[u8], state: &[f32]) -> Difference {
         let (call, bytes, state) = self.smallest(call, bytes.to_vec(), state.to_vec());
-        let (number, after) = answer(&self.oracle, call, &bytes, &state);
-        let (other_number, other_after) = answer(&self.rattle, call, &bytes, &state);
+        let [oracle, rattle] = self.answers(call, &bytes, &state);
         let card = match card::check(&bytes) {
             Ok(card) => format!("{card:#?}"),
             Err(refusal) => format!("refused {refusal}"),
         };
         let text = format!(
-            "{call:?} on a card of {} bytes and a state of {} numbers\n  oracle: {number}, rattle: {other_number}\n  before: {}\n  oracle: {}\n  rattle: {}\n{card}\n",
+            "{call:?} on a card of {} bytes and a state of {} numbers\n  oracle: {}, rattle: {}\n  before: {}\n  oracle: {}\n  rattle: {}\n{card}\n",
             bytes.len(),
             state.len(),
+            oracle.words(),
+            rattle.words(),
             in_hex(&state),
-            in_hex(&after),
-            in_hex(&other_after),
+            in_hex(&oracle.state),
+            in_hex(&rattle.state),
         );
         Difference {
             files: vec![
@@ -88,10 +121,12 @@ impl Tables {
         bytes: Vec<u8>,
         mut state: Vec<f32>,
     ) -> (Call, Vec<u8>, Vec<f32>) {
-        // A run that differs in its first tick is that tick.
-        if let Call::Run(_) = call {
-            if self.differs(Call::Tick, &bytes, &state) {
-                return self.smallest(Call::Tick, bytes, state);
+        // A run that differs in its first tick is that tick, and one that differs with fewer ticks is of those.
+        if let Call::Run(ticks) = call {
+            let fewer = (0..ticks).map(Call::Run);
+            let mut calls = [Call::Tick].into_iter().chain(fewer);
+            if let Some(call) = calls.find(|call| self.differs(*call, &bytes, &state)) {
+                return self.smallest(call, bytes, state);
             }
         }
         let Ok(card) = card::check(&bytes) else {
@@ -112,12 +147,15 @@ impl Tables {
 
     // ------------------------------------------------------------------------------------------------------------------------------ cards
 
-    /// Check and start on one card.
+    /// Check, sizes and start on one card.
     fn card(&self, bytes: &[u8], hits: &mut Hits) -> Result<u32, Box<Difference>> {
-        let (number, _) = self.both(Call::Check, bytes, &[])?;
+        let number = self.both(Call::Check, bytes, &[])?.number;
+        let sizes = self.both(Call::Sizes, bytes, &[])?;
         for refusal in 0..=10 {
             hits.look(format!("check answers {refusal}"), refusal == number);
+            hits.look(format!("sizes answers {refusal}"), refusal == sizes.number);
         }
+        hits.look("sizes of the largest card", sizes.counts == [32, 32, 800]);
         // The length that the counts give, whether the card is refused or not, and others.
         let word = bytes.get(..4).map_or(0, |four| {
             u32::from_be_bytes(four.try_into().expect("four bytes"))
@@ -129,9 +167,9 @@ impl Tables {
             _ => vec![length],
         };
         for length in lengths {
-            let (number, after) = self.both(Call::Start, bytes, &vec![MARK; length])?;
-            hits.look("start answers 11", number == 11);
-            let written = !after.contains(&MARK) && number == 0;
+            let start = self.both(Call::Start, bytes, &vec![MARK; length])?;
+            hits.look("start answers 11", start.number == 11);
+            let written = !start.state.contains(&MARK) && start.number == 0;
             hits.look("start writes a state", written);
         }
         Ok(number)
@@ -195,30 +233,46 @@ impl Tables {
     /// Ticks from the start state one by one, and the same ticks by one run.
     fn run(&self, card: &Card, ticks: u32, hits: &mut Hits) -> Result<u64, Box<Difference>> {
         let bytes = card.encode();
-        let start = self.both(Call::Start, &bytes, &vec![MARK; card.state_length()])?;
-        assert_eq!(start.0, 0, "a run begins with a card that is accepted");
-        let mut state = start.1.clone();
-        let mut ran = 0;
-        for _ in 0..ticks {
-            let (number, after) = self.both(Call::Tick, &bytes, &state)?;
-            hits.look("run: tick answers 13", number == 13);
-            if number != 0 {
-                break;
+        let sizes = self.both(Call::Sizes, &bytes, &[])?;
+        assert_eq!(sizes.number, 0, "a run begins with a card that is accepted");
+        let length = sizes.counts[2] as usize;
+        let start = self.both(Call::Start, &bytes, &vec![MARK; length])?.state;
+        let mut state = start.clone();
+        let (mut number, mut done) = (0, 0);
+        while number == 0 && done < ticks {
+            let tick = self.both(Call::Tick, &bytes, &state)?;
+            number = tick.number;
+            if number == 0 {
+                state = tick.state;
+                done += 1;
+                note_state(card, &state, hits);
             }
-            state = after;
-            ran += 1;
-            note_state(card, &state, hits);
         }
-        hits.look("run of 300 ticks", ran >= 300);
         let closed = card.joints.len() >= card.bodies.len() && card.bodies.len() > 2;
-        hits.look("run of 300 ticks of a closed loop", ran >= 300 && closed);
+        hits.look("run of 300 ticks", done >= 300);
+        hits.look("run of 300 ticks of a closed loop", done >= 300 && closed);
         hits.look(
             "run of 300 ticks of 32 bodies",
-            ran >= 300 && card.bodies.len() == 32,
+            done >= 300 && card.bodies.len() == 32,
         );
-        self.both(Call::Run(ticks), &bytes, &start.1)?;
-        self.both(Call::Run(0), &bytes, &start.1)?;
-        Ok(ran)
+        hits.look("run refused in its first tick", number == 13 && done == 0);
+        hits.look("run refused in a later tick", number == 13 && done > 0);
+        let run = self.both(Call::Run(ticks), &bytes, &start)?;
+        let by_ticks = Answer {
+            number,
+            counts: vec![done],
+            state: match number {
+                0 => state,
+                _ => start.clone(),
+            },
+        };
+        assert!(run.same(&by_ticks), "a run is its ticks, or nothing");
+        self.both(Call::Run(0), &bytes, &start)?;
+        if number != 0 {
+            self.both(Call::Run(done), &bytes, &start)?;
+            self.both(Call::Run(done + 1), &bytes, &start)?;
+        }
+        Ok(done.into())
     }
 
     /// Linkages over hundreds of ticks, and other cards over some.
@@ -238,6 +292,34 @@ impl Tables {
 
     // ----------------------------------------------------------------------------------------------------------------------------- states
 
+    /// A tick from a state that no run may have left. Answers its number.
+    fn tick(
+        &self,
+        card: &Card,
+        bytes: &[u8],
+        state: &[f32],
+        hits: &mut Hits,
+    ) -> Result<u32, Box<Difference>> {
+        let tick = self.both(Call::Tick, bytes, state)?;
+        let number = tick.number;
+        for refusal in [0, 11, 12, 13] {
+            hits.look(format!("state: tick answers {refusal}"), refusal == number);
+        }
+        hits.look("state: a card is refused", (1..=10).contains(&number));
+        hits.look(
+            "state with subnormals is accepted",
+            number == 0 && state.iter().any(|x| x.is_subnormal()),
+        );
+        hits.look(
+            "state with numbers over 4,096 is accepted",
+            number == 0 && state.iter().any(|x| x.abs() > 4096.0),
+        );
+        if number == 0 {
+            note_state(card, &tick.state, hits);
+        }
+        Ok(number)
+    }
+
     /// Ticks and runs from states that no run may have left, of right and wrong lengths.
     pub fn states(&self, seed: u64, count: u64, hits: &mut Hits) -> Result<u64, Box<Difference>> {
         for case in 0..count {
@@ -249,25 +331,31 @@ impl Tables {
                 let number = 1 + random.below(10) as u32;
                 generate::damage(random, &mut bytes, number);
             }
-            let (number, after) = self.both(Call::Tick, &bytes, &state)?;
+            let tick = self.tick(&card, &bytes, &state, hits)?;
+            let none = self.both(Call::Run(0), &bytes, &state)?.number;
+            for refusal in [0, 12, 13] {
+                let class = format!("state: run of none answers 0, a tick {refusal}");
+                hits.look(class, none == 0 && tick == refusal);
+            }
+            hits.look("state: run of none answers 11", none == 11);
+            hits.look(
+                "state: run of none, a card is refused",
+                none == tick && (1..=10).contains(&none),
+            );
+            let ticks = 1 + random.below(4) as u32;
+            let run = self.both(Call::Run(ticks), &bytes, &state)?;
             for refusal in [0, 11, 12, 13] {
-                hits.look(format!("state: tick answers {refusal}"), refusal == number);
+                let class = format!("state: run answers {refusal}");
+                hits.look(class, refusal == run.number);
             }
-            hits.look("state: a card is refused", (1..=10).contains(&number));
+            let later = run.number == 13 && run.counts != [0];
+            let free = card.joints.is_empty();
+            hits.look("state: run refused in a later tick", later && !free);
             hits.look(
-                "state with subnormals is accepted",
-                number == 0 && state.iter().any(|x| x.is_subnormal()),
+                "state: run without joints refused in a later tick",
+                later && free,
             );
-            hits.look(
-                "state with numbers over 4,096 is accepted",
-                number == 0 && state.iter().any(|x| x.abs() > 4096.0),
-            );
-            if number == 0 {
-                note_state(&card, &after, hits);
-            }
-            let ticks = random.below(4) as u32;
-            let (number, _) = self.both(Call::Run(ticks), &bytes, &state)?;
-            hits.look("state: run of none is accepted", ticks == 0 && number == 0);
+            self.both(Call::Sizes, &bytes, &[])?;
             self.both(Call::Start, &bytes, &state)?;
         }
         Ok(count)
@@ -296,11 +384,20 @@ fn note_state(card: &Card, state: &[f32], hits: &mut Hits) {
             }
             _ => hits.look(format!("tick with a {kind} at rest"), !used(0)),
         }
-        if let (Some(place), motor @ 1..) = (joint.motor_total(), joint.motor) {
-            hits.look(format!("tick with a {kind} motor {motor}"), used(place));
-            hits.look(format!("tick with a {kind} motor idle"), !used(place));
+        if let Some(place) = joint.motor_total() {
+            for motor in 1..=3 {
+                hits.look(
+                    format!("tick with a {kind} motor {motor}"),
+                    joint.motor == motor && used(place),
+                );
+            }
+            hits.look(
+                format!("tick with a {kind} motor idle"),
+                joint.motor != 0 && !used(place),
+            );
         }
     }
+    hits.look("tick with a joint", !card.joints.is_empty());
     hits.look(
         "tick with a locked body",
         card.bodies.iter().any(|body| body.locks != [false; 3]),
@@ -322,6 +419,7 @@ fn note_state(card: &Card, state: &[f32], hits: &mut Hits) {
 mod tests {
     use super::super::ORACLE;
     use super::*;
+    use crate::table::{Ran, Sizes};
 
     fn against(rattle: Table) -> Tables {
         Tables {
@@ -375,9 +473,55 @@ mod tests {
             tick: |_, _| 13,
             ..ORACLE
         });
-        // Makes the first tick only.
+        // Makes the first tick only, and says that it made them all.
         found(Table {
-            run: |card, state, ticks| (ORACLE.run)(card, state, ticks.min(1)),
+            run: |card, state, ticks| Ran {
+                done: ticks,
+                ..(ORACLE.run)(card, state, ticks.min(1))
+            },
+            ..ORACLE
+        });
+        // Leaves the state of the ticks before the refused one.
+        let text = found(Table {
+            run: |card, state, ticks| {
+                let ran = (ORACLE.run)(card, state, ticks);
+                if ran.number != 0 {
+                    (ORACLE.run)(card, state, ran.done);
+                }
+                ran
+            },
+            ..ORACLE
+        });
+        assert!(text.starts_with("Run("), "{text}");
+        // Counts the refused tick.
+        found(Table {
+            run: |card, state, ticks| match (ORACLE.run)(card, state, ticks) {
+                Ran { number: 13, done } => Ran {
+                    number: 13,
+                    done: done + 1,
+                },
+                ran => ran,
+            },
+            ..ORACLE
+        });
+        // Looks at a state's numbers though it makes no tick.
+        let text = found(Table {
+            run: |card, state, ticks| match (ticks, (ORACLE.tick)(card, &mut state.to_vec())) {
+                (0, number @ 12) => Ran { number, done: 0 },
+                _ => (ORACLE.run)(card, state, ticks),
+            },
+            ..ORACLE
+        });
+        assert!(text.starts_with("Run(0)"), "{text}");
+        // Gives the counts of a card that is refused.
+        found(Table {
+            sizes: |card| match ((ORACLE.sizes)(card), card) {
+                (sizes @ Sizes { number: 6.., .. }, [_, byte, ..]) => Sizes {
+                    bodies: u32::from(byte >> 2),
+                    ..sizes
+                },
+                (sizes, _) => sizes,
+            },
             ..ORACLE
         });
         // A still linkage.

@@ -1,5 +1,5 @@
 use borrow.Author.Needs.{needs}
-use Rattle.xpbd_plugin.specs.Joint.{jointWarmStarted}
+use Rattle.xpbd_plugin.specs.Parts.{jointWarmStarted}
 use Rattle.xpbd_plugin.proofs.warm_start_xpbd_motors.Statement.{statement}
 use Rattle.xpbd_plugin.proofs.warm_start_xpbd_motors.Tie as tie
 

@@ -1,16 +1,10 @@
-use Rattle.card.specs.Bits.{bits24}
-use native.Mathlib.Omega.{arith}
 use borrow.Author.Needs.{needs}
+use Rattle.card.proofs.Packed as packed
 use Rattle.card.proofs.bits.bits24_at.Statement.{statement}
 use Rattle.card.proofs.bits.bits24_at.Tie as tie
 
 returns : tie.Need-returns
-unfolding bits24
-returns c = omega arith
+returns c = packed.bytes3 _ _ (c .before .before .byte-at .ensures) (c .before .byte-at2 .ensures) (c .byte-at3 .ensures)
 
 pub bits24-at-spec : {M : Type 1} → statement M
-bits24-at-spec =
-    tie.close
-    (tie.spec
-    (λ c κs. search needs) (λ c. search needs) (λ c. search needs) (λ c κs. search needs) (λ c. search needs)
-    (λ c. search needs) (λ c. search needs) (λ c κs. search needs) (λ c. search needs) returns)
+bits24-at-spec = tie.close (tie.spec (λ c κs. search needs) (λ c. search needs) (λ c. search needs) (λ c κs. search needs) (λ c. search needs) (λ c. search needs) (λ c. search needs) (λ c κs. search needs) (λ c. search needs) returns)

@@ -1,10 +1,8 @@
 use borrow.Author.Needs.{needs}
-use Rattle.card.specs.Checks.{axisFault}
 use Rattle.card.proofs.checks.axis_fault.Statement.{statement}
 use Rattle.card.proofs.checks.axis_fault.Tie as tie
 
 returns : tie.Need-returns
-unfolding axisFault
 returns c =
     let c1 = c .before in
     simp (

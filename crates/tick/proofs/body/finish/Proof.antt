@@ -1,9 +1,11 @@
+use Rattle.xpbd_plugin.specs.Parts.{linearProjected, angularProjected}
 use Rattle.tick.specs.Body.{finishedBody}
+use Rattle.tick.specs.Parts.{projected}
 use Rattle.tick.proofs.body.finish.Statement.{statement}
 use Rattle.tick.proofs.body.finish.Tie as tie
 
 returns : tie.Need-returns
-unfolding finishedBody
+unfolding finishedBody projected linearProjected angularProjected
 returns c =
     let c1 = c .before in
     let c2 = c1 .before in

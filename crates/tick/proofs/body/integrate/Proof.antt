@@ -1,9 +1,10 @@
 use Rattle.tick.specs.Body.{integrated}
+use Rattle.tick.specs.Parts.{unlockedVelocity}
 use Rattle.tick.proofs.body.integrate.Statement.{statement}
 use Rattle.tick.proofs.body.integrate.Tie as tie
 
 returns : tie.Need-returns
-unfolding integrated
+unfolding integrated unlockedVelocity
 returns c =
     let c1 = c .before in
     let c2 = c1 .before in

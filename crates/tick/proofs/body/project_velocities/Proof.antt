@@ -1,4 +1,4 @@
-use Rattle.tick.specs.Body.{projected}
+use Rattle.tick.specs.Parts.{projected}
 use Rattle.tick.proofs.body.project_velocities.Statement.{statement}
 use Rattle.tick.proofs.body.project_velocities.Tie as tie
 

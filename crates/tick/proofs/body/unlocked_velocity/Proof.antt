@@ -1,4 +1,4 @@
-use Rattle.tick.specs.Body.{unlockedVelocity}
+use Rattle.tick.specs.Parts.{unlockedVelocity}
 use Rattle.tick.proofs.body.unlocked_velocity.Statement.{statement}
 use Rattle.tick.proofs.body.unlocked_velocity.Tie as tie
 

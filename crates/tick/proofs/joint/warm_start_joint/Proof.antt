@@ -1,10 +1,10 @@
 use borrow.Author.Needs.{needs}
-use Rattle.xpbd_plugin.specs.Joint.{jointPrepared, jointWarmStarted}
+use Rattle.xpbd_plugin.specs.Joint.{jointPrepared, jointWarmed}
 use Rattle.tick.proofs.joint.warm_start_joint.Statement.{statement}
 use Rattle.tick.proofs.joint.warm_start_joint.Tie as tie
 
 pub warm-start-joint-spec : {M : Type 1} → statement M
-unfolding jointPrepared jointWarmStarted
+unfolding jointPrepared jointWarmed
 warm-start-joint-spec =
     tie.close
     (tie.spec (λ c. search needs) (λ c. search needs) (λ _ _. tt) (λ c. search needs) (λ _ _. tt) (λ c. search needs) (λ c. search needs)

@@ -1,0 +1,189 @@
+-- The faults of each record, as its function finds them.
+use Prim.Native.Nat.{ℕ}
+use mathlib.Core.Path.{_≡_, refl, ap, _∙_}
+use mathlib.Core.Bool.{Bool, true, false, not, _||_, _&&_, or-false}
+use mathlib.Core.List.{List, [], _∷_, _++_}
+use lib.Dec.{eqb, ltb}
+use lib.Ieee.{neg}
+use Rattle.vector.specs.Rotation.{normSquaredOf}
+use Rattle.scalar.specs.Arith.{f0, largest}
+use Rattle.card.specs.Format.{Range}
+use Rattle.card.specs.Format.{Bounded, NotNegative, Cap}
+use Rattle.card.specs.declared.records.HeaderBits.{HeaderBits}
+use Rattle.card.specs.declared.records.BodyBits.{BodyBits}
+use Rattle.card.specs.declared.records.JointBits.{JointBits}
+use Rattle.card.specs.declared.kinds.JointKind.{JointKind}
+use Rattle.card.specs.declared.checks.Faults.{Faults}
+use Rattle.card.specs.Format.{bound, Cell, numbersAt, unusedSet, outOf}
+use Rattle.card.specs.Card.{at, flag, always, never, bits, moving, body, kindOf, compliant, motored}
+use Rattle.card.specs.Checks.{offUnit}
+use Rattle.card.specs.Parts.{header1, joint1, floatAt, vec3At, quatAt, limitAt, normsAt, headerBits, bodyBits, jointBits, kindFor, setAt, outsideAt, usedOut, faults, fieldFaults, headerFaults, bodyFaults, jointFaults}
+use Rattle.card.proofs.Cells.{Row, anyAt, fieldwise, record-fieldwise}
+
+abbrev pub row : ℕ → (List ℕ → Bool) → Range → Row
+row n used range = record { count = n; used = used; range = range }
+
+abbrev pub isSet : ℕ → Bool
+isSet n = not (eqb n 0)
+
+-- the tests of checks 6 and 7, by the record's numbers
+abbrev pub unused : List ℕ → Cell → ℕ → Bool
+unused ns c n = not (c .used ns) && not (eqb n 0)
+
+abbrev pub beyond : List ℕ → Cell → ℕ → Bool
+beyond ns c n = outOf (c .range) n && c .used ns
+
+-- ---- the header
+
+abbrev pub header-cells : List Cell
+header-cells = bits 8 always ++ bits 6 always ++ bits 6 always ++ bits 10 always ++ bits 2 never
+
+abbrev pub header-rows : List Row
+header-rows = row 1 always Bounded ∷ row 1 always NotNegative ∷ []
+
+abbrev header-found : List ℕ → HeaderBits → Faults
+header-found l h =
+    fieldFaults (fieldFaults (faults (isSet (h .zero)) false false false) l true (neg bound) bound 4 1) l true f0 bound 8 1
+
+module _ (l : List ℕ) where
+  abbrev header-numbers : List ℕ
+  header-numbers = numbersAt header1 l 0
+
+  pub header-unused : unusedSet header1 header-numbers ≡ (header-found l (headerBits header-numbers) .bits)
+  unfolding fieldFaults setAt headerBits numbersAt outOf
+  header-unused = record-fieldwise (unused header-numbers) l header-cells header-rows ∙ simp or-false
+
+  pub header-beyond : usedOut header1 header-numbers ≡ (header-found l (headerBits header-numbers) .floats)
+  unfolding fieldFaults outsideAt headerBits numbersAt outOf
+  header-beyond = record-fieldwise (beyond header-numbers) l header-cells header-rows
+
+  pub header-is : header-found l (headerBits header-numbers) ≡ headerFaults header-numbers
+  unfolding headerFaults fieldFaults
+  header-is = rw (header-unused, header-beyond) refl
+
+-- ---- a body
+
+abbrev pub body-cells : List Cell
+body-cells = bits 1 always ++ bits 1 moving ++ bits 1 moving ++ bits 1 moving ++ bits 8 moving ++ bits 4 never
+
+abbrev body-rows : List Row
+body-rows = row 10 always Bounded ∷ row 6 moving Bounded ∷ row 1 moving NotNegative ∷ row 6 moving Bounded ∷ []
+
+abbrev body-own : BodyBits → Bool
+body-own b = b .anchored && (isSet (b .«lock_x») || isSet (b .«lock_y») || isSet (b .«lock_z») || isSet (b .dominance)) || isSet (b .zero)
+
+abbrev body-fields : List ℕ → BodyBits → Faults
+body-fields l b =
+    let start = faults (body-own b) false false false in
+    let f1 = fieldFaults start l true (neg bound) bound 2 10 in
+    let f2 = fieldFaults f1 l (not (b .anchored)) (neg bound) bound 42 6 in
+    let f3 = fieldFaults f2 l (not (b .anchored)) f0 bound 66 1 in
+    fieldFaults f3 l (not (b .anchored)) (neg bound) bound 70 6
+
+pub own-bits : (a x y z d o : Bool)
+    → (not (not a) && x || (not (not a) && y || (not (not a) && z || (not (not a) && d || (o || false))))) ≡ (a && (x || y || z || d) || o)
+own-bits true true y z d o = refl
+own-bits true false true z d o = refl
+own-bits true false false true d o = refl
+own-bits true false false false true o = refl
+own-bits true false false false false o = or-false o
+own-bits false x y z d o = or-false o
+
+module _ (l : List ℕ) where
+  abbrev body-numbers : List ℕ
+  body-numbers = numbersAt body l 0
+
+  body-first : anyAt (unused body-numbers) l body-cells 0 ≡ body-own (bodyBits body-numbers)
+  unfolding bodyBits numbersAt
+  body-first =
+      own-bits (flag 0 body-numbers) (isSet (at 1 body-numbers)) (isSet (at 2 body-numbers)) (isSet (at 3 body-numbers)) (isSet (at 4 body-numbers)) (isSet (at 5 body-numbers))
+
+  body-unused : unusedSet body body-numbers ≡ (body-fields l (bodyBits body-numbers) .bits)
+  unfolding fieldFaults setAt bodyBits
+  body-unused = record-fieldwise (unused body-numbers) l body-cells body-rows ∙ ap (λ found. fieldwise (unused body-numbers) l found body-rows 16) body-first
+
+  body-beyond : usedOut body body-numbers ≡ (body-fields l (bodyBits body-numbers) .floats)
+  unfolding fieldFaults outsideAt outOf bodyBits
+  body-beyond = record-fieldwise (beyond body-numbers) l body-cells body-rows
+
+  pub body-is : let g = body-fields l (bodyBits body-numbers) in faults (g .bits) (g .floats) false (offUnit (normSquaredOf (quatAt l 14))) ≡ bodyFaults body-numbers
+  unfolding bodyFaults fieldFaults quatAt floatAt numbersAt
+  body-is = rw (body-unused, body-beyond) refl
+
+-- ---- a joint of edition 1
+
+abbrev pub joint-cells : List Cell
+joint-cells = bits 3 always ++ bits 5 always ++ bits 5 always ++ bits 1 always ++ bits 1 always ++ bits 2 always ++ bits 7 never
+
+abbrev pub joint-rows : List Row
+joint-rows =
+    row 6 always Bounded ∷ row 8 (λ ns. kindOf ns .bases) Bounded ∷ row 3 (λ ns. kindOf ns .axis) Bounded
+    ∷ row 1 (compliant 0) NotNegative ∷ row 1 (compliant 1) NotNegative ∷ row 1 (compliant 2) NotNegative ∷ row 1 (compliant 3) NotNegative
+    ∷ row 2 (flag 3) Bounded ∷ row 2 (flag 4) Bounded ∷ row 2 motored Bounded ∷ row 1 motored Cap ∷ row 2 motored Bounded ∷ []
+
+abbrev joint-fields : List ℕ → JointBits → JointKind → Faults
+joint-fields l b k =
+    let many = k .compliances in
+    let motor = isSet (b .motor) in
+    let start = faults (isSet (b .zero)) false false false in
+    let f1 = fieldFaults start l true (neg bound) bound 3 6 in
+    let f2 = fieldFaults f1 l (k .bases) (neg bound) bound 27 8 in
+    let f3 = fieldFaults f2 l (k .axis) (neg bound) bound 59 3 in
+    let f4 = fieldFaults f3 l (ltb 0 many) f0 bound 71 1 in
+    let f5 = fieldFaults f4 l (ltb 1 many) f0 bound 75 1 in
+    let f6 = fieldFaults f5 l (ltb 2 many) f0 bound 79 1 in
+    let f7 = fieldFaults f6 l (ltb 3 many) f0 bound 83 1 in
+    let f8 = fieldFaults f7 l (b .first) (neg bound) bound 87 2 in
+    let f9 = fieldFaults f8 l (b .second) (neg bound) bound 95 2 in
+    let f10 = fieldFaults f9 l motor (neg bound) bound 103 2 in
+    let f11 = fieldFaults f10 l motor f0 largest 111 1 in
+    fieldFaults f11 l motor (neg bound) bound 115 2
+
+abbrev joint-found : List ℕ → JointBits → JointKind → Faults → Faults
+joint-found l b k g = faults (g .bits || not (k .fits)) (g .floats) (limitAt l 87 || limitAt l 95) (normsAt l (k .bases) (k .axis))
+
+module _ (l : List ℕ) where
+  abbrev joint-numbers : List ℕ
+  joint-numbers = numbersAt joint1 l 0
+
+  abbrev b : JointBits
+  b = jointBits joint-numbers
+
+  abbrev k : JointKind
+  k = kindFor (at 0 joint-numbers) (flag 3 joint-numbers) (flag 4 joint-numbers) (motored joint-numbers)
+
+  joint-first : anyAt (unused joint-numbers) l joint-cells 0 ≡ isSet (b .zero)
+  unfolding jointBits numbersAt
+  joint-first = or-false (isSet (at 6 joint-numbers))
+
+  joint-unused : unusedSet joint1 joint-numbers ≡ (joint-fields l b k .bits)
+  unfolding fieldFaults setAt jointBits kindFor
+  joint-unused = record-fieldwise (unused joint-numbers) l joint-cells joint-rows ∙ ap (λ found. fieldwise (unused joint-numbers) l found joint-rows 24) joint-first
+
+  joint-beyond : usedOut joint1 joint-numbers ≡ (joint-fields l b k .floats)
+  unfolding fieldFaults outsideAt outOf jointBits kindFor
+  joint-beyond = record-fieldwise (beyond joint-numbers) l joint-cells joint-rows
+
+  pub joint-is : joint-found l b k (joint-fields l b k) ≡ jointFaults joint-numbers
+  unfolding jointFaults limitAt normsAt vec3At quatAt floatAt numbersAt jointBits kindFor
+  joint-is = rw (joint-unused, joint-beyond) refl
+
+  -- as the calls give them
+  pub joint-are : {b' : JointBits} {k' : JointKind} {f1 f2 f3 f4 f5 f6 f7 f8 f9 f10 f11 f12 : Faults} {u v w : Bool}
+      → b' ≡ b → k' ≡ kindFor (b' .kind) (b' .first) (b' .second) (isSet (b' .motor))
+      → f1 ≡ fieldFaults (faults (isSet (b' .zero)) false false false) l true (neg bound) bound 3 6
+      → f2 ≡ fieldFaults f1 l (k' .bases) (neg bound) bound 27 8
+      → f3 ≡ fieldFaults f2 l (k' .axis) (neg bound) bound 59 3
+      → f4 ≡ fieldFaults f3 l (ltb 0 (k' .compliances)) f0 bound 71 1
+      → f5 ≡ fieldFaults f4 l (ltb 1 (k' .compliances)) f0 bound 75 1
+      → f6 ≡ fieldFaults f5 l (ltb 2 (k' .compliances)) f0 bound 79 1
+      → f7 ≡ fieldFaults f6 l (ltb 3 (k' .compliances)) f0 bound 83 1
+      → f8 ≡ fieldFaults f7 l (b' .first) (neg bound) bound 87 2
+      → f9 ≡ fieldFaults f8 l (b' .second) (neg bound) bound 95 2
+      → f10 ≡ fieldFaults f9 l (isSet (b' .motor)) (neg bound) bound 103 2
+      → f11 ≡ fieldFaults f10 l (isSet (b' .motor)) f0 largest 111 1
+      → f12 ≡ fieldFaults f11 l (isSet (b' .motor)) (neg bound) bound 115 2
+      → u ≡ limitAt l 87 → v ≡ limitAt l 95 → w ≡ normsAt l (k' .bases) (k' .axis)
+      → faults (f12 .bits || not (k' .fits)) (f12 .floats) (u || v) w ≡ jointFaults joint-numbers
+  unfolding jointBits
+  joint-are eb ek e1 e2 e3 e4 e5 e6 e7 e8 e9 e10 e11 e12 eu ev ew = rw (e12, e11, e10, e9, e8, e7, e6, e5, e4, e3, e2, e1, eu, ev, ew, ek, eb) joint-is

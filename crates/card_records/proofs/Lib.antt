@@ -1,5 +1,0 @@
-pub mod Signed
-pub mod Writes
-pub mod Starting
-pub mod Faults
-pub mod StartState

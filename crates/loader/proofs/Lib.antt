@@ -1,0 +1,7 @@
+pub mod Parts
+pub mod Signed
+pub mod Accepted
+pub mod Records
+pub mod Rows
+pub mod Loading
+pub mod Linkage

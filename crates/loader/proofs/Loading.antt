@@ -1,0 +1,118 @@
+-- Slices that hold a card's records one behind the other hold its linkage.
+use Prim.Native.Nat.{ℕ, _+_, _*_, _<_}
+use mathlib.Core.Path.{_≡_, refl, sym, ap, _∙_}
+use mathlib.Core.List.{List, [], _++_, map}
+use lib.ListN.{length, length-append, length-map, List·getD-map}
+use lib.Ieee.{Float}
+use Rattle.numbers.specs.Lists.{concat, each}
+use Rattle.numbers.proofs.Rows.{each-is}
+use Rattle.card.specs.Format.{numbersAt, recordsAt}
+use Rattle.card.specs.Card.{body, cardOf}
+use Rattle.card.specs.Checks.{checkOf}
+use Rattle.card.specs.Parts.{joint1}
+use Rattle.card.proofs.Cut.{records-length, record-at}
+use Rattle.card.proofs.Packed.{below}
+use Rattle.loader.specs.declared.header.Header.{Header}
+use Rattle.loader.specs.Linkage.{bodyIn, modelIn, angularMotorIn, linearMotorIn, revoluteIn, prismaticIn, sphericalIn, kindIn, jointIn, bodyOf, jointOf, linkageOf}
+use Rattle.loader.specs.Parts.{bodyFloatsOf, jointFloatsOf, headerOf, bodyPartWords, bodyPartFloats, jointPartWords, jointPartFloats, bodyWordsOf, jointWordsOf, bodyAt, jointAt, linkageIn, Loaded}
+use Rattle.loader.proofs.Accepted.{bodies-are, joints-are, joint-fits}
+use Rattle.loader.proofs.Records.{body-words-sized, body-floats-sized, joint-words-sized, joint-floats-sized}
+use Rattle.loader.proofs.Rows.{row-length, row-at, row-behind}
+
+-- a record's words are enough for what is read of it
+body-same : (l : List ℕ) (p : ℕ) → let ns = numbersAt body l p in bodyIn (bodyWordsOf ns) (bodyFloatsOf ns) ≡ bodyOf ns
+unfolding numbersAt bodyIn
+body-same l p = refl
+
+joint-same : (l : List ℕ) (p : ℕ) → let ns = numbersAt joint1 l p in jointIn (jointWordsOf ns) (jointFloatsOf ns) ≡ jointOf ns
+unfolding numbersAt kindIn revoluteIn prismaticIn sphericalIn angularMotorIn linearMotorIn modelIn
+joint-same l p = refl
+
+module _ (card : List ℕ) (h : Header) where
+  -- where body i and joint j stand, in bits
+  abbrev bodyPlace : ℕ → ℕ
+  bodyPlace i = 96 + i * 752
+
+  abbrev joints : ℕ
+  joints = 8 * (12 + 94 * h .bodies)
+
+  abbrev jointPlace : ℕ → ℕ
+  jointPlace j = joints + j * 984
+
+  abbrev bodyRow : {A : Type 0} → (List ℕ → List A) → List A
+  bodyRow g = concat (map g (recordsAt body card 96 (h .bodies)))
+
+  abbrev jointRow : {A : Type 0} → (List ℕ → List A) → List A
+  jointRow g = concat (map g (recordsAt joint1 card joints (h .joints)))
+
+  abbrev words : List ℕ
+  words = bodyRow bodyWordsOf ++ jointRow jointWordsOf
+
+  abbrev floats : List Float
+  floats = bodyRow bodyFloatsOf ++ jointRow jointFloatsOf
+
+  pub words-length : length (bodyRow bodyWordsOf) ≡ 5 * h .bodies
+  words-length = row-length body bodyWordsOf 5 body-words-sized card 96 (h .bodies)
+
+  pub floats-length : length (bodyRow bodyFloatsOf) ≡ 10 * h .bodies
+  floats-length = row-length body bodyFloatsOf 10 body-floats-sized card 96 (h .bodies)
+
+  body-words : (i : ℕ) → i < h .bodies → bodyPartWords words i ≡ bodyWordsOf (numbersAt body card (bodyPlace i))
+  body-words i r = row-at body bodyWordsOf 5 body-words-sized (jointRow jointWordsOf) card 96 (h .bodies) i r
+
+  body-floats : (i : ℕ) → i < h .bodies → bodyPartFloats floats i ≡ bodyFloatsOf (numbersAt body card (bodyPlace i))
+  body-floats i r = row-at body bodyFloatsOf 10 body-floats-sized (jointRow jointFloatsOf) card 96 (h .bodies) i r
+
+  joint-words : (j : ℕ) → j < h .joints → jointPartWords h words j ≡ jointWordsOf (numbersAt joint1 card (jointPlace j))
+  joint-words j r =
+      row-behind joint1 jointWordsOf 6 joint-words-sized (bodyRow bodyWordsOf) (5 * h .bodies) words-length card joints (h .joints) j r
+
+  joint-floats : (j : ℕ) → j < h .joints → jointPartFloats h floats j ≡ jointFloatsOf (numbersAt joint1 card (jointPlace j))
+  joint-floats j r =
+      row-behind joint1 jointFloatsOf 30 joint-floats-sized (bodyRow bodyFloatsOf) (10 * h .bodies) floats-length card joints (h .joints) j r
+
+  body-read : (i : ℕ) → i < h .bodies → bodyAt h words floats i ≡ bodyOf (numbersAt body card (bodyPlace i))
+  unfolding bodyAt
+  body-read i r = rw (body-words i r, body-floats i r) (body-same card (bodyPlace i))
+
+  joint-read : (j : ℕ) → j < h .joints → jointAt h words floats j ≡ jointOf (numbersAt joint1 card (jointPlace j))
+  unfolding jointAt
+  joint-read j r = rw (joint-words j r, joint-floats j r) (joint-same card (jointPlace j))
+
+  module _ (z : checkOf card ≡ 0) (e : h ≡ headerOf (cardOf card)) where
+    bodies-same : each (bodyAt h words floats) (h .bodies) ≡ map bodyOf (cardOf card .bodies)
+    bodies-same =
+        let records = recordsAt body card 96 (h .bodies) in
+        rw (bodies-are card z h e)
+        (each-is (bodyAt h words floats) (bodyOf []) (map bodyOf records) (h .bodies) (length-map records bodyOf ∙ records-length body card 96 (h .bodies))
+        (λ i r. body-read i r ∙ sym (List·getD-map bodyOf records i [] ∙ ap bodyOf (record-at body card 96 (h .bodies) i r))))
+
+    joints-same : each (jointAt h words floats) (h .joints) ≡ map jointOf (cardOf card .joints)
+    joints-same =
+        let records = recordsAt joint1 card joints (h .joints) in
+        rw (joints-are card z h e)
+        (each-is (jointAt h words floats) (jointOf []) (map jointOf records) (h .joints) (length-map records jointOf ∙ records-length joint1 card joints (h .joints))
+        (λ j r. joint-read j r ∙ sym (List·getD-map jointOf records j [] ∙ ap jointOf (record-at joint1 card joints (h .joints) j r))))
+
+    same-linkage : linkageIn h words floats ≡ linkageOf (cardOf card)
+    unfolding linkageIn linkageOf headerOf
+    same-linkage = rw (bodies-same, joints-same, e) refl
+
+    is-loaded : Loaded h words floats
+    unfolding numbersAt
+    is-loaded =
+        record {
+          words-length =
+              rw (length-append (bodyRow bodyWordsOf) (jointRow jointWordsOf), words-length, row-length joint1 jointWordsOf 6 joint-words-sized card joints (h .joints)) refl;
+          floats-length =
+              rw (length-append (bodyRow bodyFloatsOf) (jointRow jointFloatsOf), floats-length, row-length joint1 jointFloatsOf 30 joint-floats-sized card joints (h .joints)) refl;
+          dominances = λ i r. rw (body-words i r) (below card (bodyPlace i + 1 + 1 + 1 + 1) 8);
+          kinds = λ j r. rw (joint-words j r) (joint-fits card z h e j r .0);
+          first = λ j r. rw (joint-words j r) (joint-fits card z h e j r .1);
+          second = λ j r. rw (joint-words j r) (joint-fits card z h e j r .2);
+        }
+
+    -- as the two loops leave them
+    pub loads : {w w₁ w₂ : List ℕ} {f f₁ f₂ : List Float} → w ≡ w₁ ++ w₂ → w₁ ≡ bodyRow bodyWordsOf → w₂ ≡ jointRow jointWordsOf
+        → f ≡ f₁ ++ f₂ → f₁ ≡ bodyRow bodyFloatsOf → f₂ ≡ jointRow jointFloatsOf → (linkageIn h w f ≡ linkageOf (cardOf card)) × Loaded h w f
+    loads w w₁ w₂ f f₁ f₂ = rw (w, w₁, w₂, f, f₁, f₂) (same-linkage, is-loaded)

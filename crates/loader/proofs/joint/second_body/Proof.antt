@@ -1,0 +1,21 @@
+use native.Mathlib.Omega.{arith}
+use Prim.Native.Nat.{_+_, _*_}
+use Rattle.loader.specs.Parts.{jointAt}
+use Rattle.loader.proofs.Parts.{place}
+use borrow.Author.Needs.{needs}
+use Rattle.loader.proofs.joint.second_body.Statement.{statement}
+use Rattle.loader.proofs.joint.second_body.Tie as tie
+
+cast-result : tie.Need-cast-result
+cast-result c = omega (arith, c .shared-slice-known .given (5 * c .before .before .args .h .bodies + 6 * c .before .before .args .j + 2))
+
+returns : tie.Need-returns
+unfolding jointAt
+returns c = λ f. place _ (5 * c .before .before .args .h .bodies + 6 * c .before .before .args .j) 6 2 _ 0 (omega arith) (omega arith)
+
+pub second-body-spec : {M : Type 1} → statement M
+second-body-spec =
+    tie.close
+    (tie.spec
+    (λ c. search needs) (λ c. search needs) (λ c. search needs) (λ c. search needs) (λ c. search needs)
+    (λ c. search needs) cast-result returns)

@@ -1,0 +1,23 @@
+use native.Mathlib.Omega.{arith}
+use lib.ListN.{length-set}
+use Rattle.loader.proofs.Records.{joint-words, joint-floats, body-numbers}
+use borrow.Author.Needs.{needs}
+use Rattle.loader.proofs.load.load_joint.Statement.{statement}
+use Rattle.loader.proofs.load.load_joint.Tie as tie
+
+cast-words : tie.Need-cast-words
+cast-words c = omega (arith, body-numbers _ (c .before .joint-bits .ensures))
+
+cast-words-2 : tie.Need-cast-words-2
+cast-words-2 c = omega (arith, body-numbers _ (c .before .before .joint-bits .ensures))
+
+returns : tie.Need-returns
+returns c = let start = c .before .before .before .before .before .before .before .before .before .before .before .before in (joint-words _ (start .args .words .now) (start .pre .1) (c .before .before .before .before .before .before .before .before .joint-bits .ensures), joint-floats _ (c .before .before .load-floats .ensures) (start .pre .2))
+
+pub load-joint-spec : {M : Type 1} → statement M
+load-joint-spec =
+    tie.close
+    (tie.spec
+    (λ c κs. search needs) (λ c. search needs) cast-words (λ c. search needs) cast-words-2 (λ c. search needs)
+    (λ c. search needs) (λ c. search needs) (λ c. search needs) (λ c. simp length-set (omega arith))
+    (λ c. simp length-set (omega arith)) (λ c κs. search needs) (λ c. search needs) (λ c. search needs) returns)

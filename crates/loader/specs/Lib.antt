@@ -1,0 +1,2 @@
+pub mod Linkage
+pub mod Parts

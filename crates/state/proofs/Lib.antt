@@ -1,0 +1,5 @@
+pub mod Answers
+pub mod Found
+pub mod Rows
+pub mod Starting
+pub mod Few

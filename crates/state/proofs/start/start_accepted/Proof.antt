@@ -1,0 +1,24 @@
+use mathlib.Core.Path.{sym, _∙_}
+use borrow.Author.Needs.{needs}
+use Rattle.state.proofs.Starting.{length-refused, written}
+use Rattle.state.proofs.start.start_accepted.Statement.{statement}
+use Rattle.state.proofs.start.start_accepted.Tie as tie
+
+returns : tie.Need-returns
+returns c =
+    let a = c .before .before .before .before .args in
+    length-refused (a .card .now) (a .bodies) (a .joints) _ (λ e. c .if1 .taken (e ∙ sym (c .before .state-length .ensures)))
+
+returns-2 : tie.Need-returns-2
+returns-2 c =
+    let w = c .before .before in
+    let l = w .before .before .before .before in
+    let e = l .before .before in
+    let a = e .before .before .before .before .args in
+    written (a .card .now) (a .bodies) (a .joints) _ (e .if1 .left ∙ e .before .state-length .ensures) (l .clear .ensures) (w .write-bodies .ensures)
+
+pub start-accepted-spec : {M : Type 1} → statement M
+start-accepted-spec =
+    tie.close
+    (tie.spec
+    (λ c κs. search needs) returns (λ c κs. search needs) (λ c κs. search needs) (λ c. search needs) returns-2)
