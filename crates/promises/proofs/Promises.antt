@@ -1,0 +1,21 @@
+-- Each is proved where it belongs.
+use Rattle.root.proofs.Closest.{root-exact}
+use Rattle.series.proofs.Nearest.{nearest}
+use Rattle.trig.proofs.Accuracy.{accurate}
+use Rattle.table.proofs.Examples as line
+use Rattle.examples.proofs.Examples as marked
+use Rattle.demand.proofs.Demand.{demand-three}
+use Rattle.demand.proofs.Sample.{sample-holds}
+use Rattle.promises.specs.Promises.{Promises}
+
+pub promises : Promises
+promises =
+    record {
+      root = root-exact;
+      tables = nearest;
+      accuracy = accurate;
+      demand = demand-three;
+      sample = sample-holds;
+      examples = marked.examples;
+      line = line.examples;
+    }

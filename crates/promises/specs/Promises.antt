@@ -1,0 +1,21 @@
+-- The headline theorems in one place, so that the check fails where one of them is gone.
+use lib.Dec.{T}
+use lib.Ieee.{Float, binary32, fits}
+use lib.Ieee.Positive.{positive}
+use Rattle.root.specs.Nearest.{RootIsNearest}
+use Rattle.series.specs.Nearest.{Nearest}
+use Rattle.trig.specs.Accuracy.{Accurate}
+use Rattle.table.specs.Examples as line
+use Rattle.examples.specs.Examples as marked
+use Rattle.demand.specs.Demand.{DemandThree}
+use Rattle.demand.specs.Sample.{Sample}
+
+pub record Promises : Type 0 where
+  pub root : (x : Float) → T (fits binary32 x) → T (positive x) → RootIsNearest x
+  pub tables : Nearest
+  pub accuracy : Accurate
+  pub demand : DemandThree
+  pub sample : Sample
+  -- document 01's lines marked P, and its example line
+  pub examples : marked.Examples
+  pub line : line.Examples

@@ -1,0 +1,1 @@
+// What is promised beyond the contracts, each theorem by its name and type: a crate of proofs alone.
