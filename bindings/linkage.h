@@ -3,6 +3,10 @@
  * A card is any bytes. A state has 13 floats for each of the card's bodies (position, rotation x y z w, linear and angular velocity) and then 12 for each
  * of its joints; another length is refused by 11. Each call answers 0, or the number of document 01's refusal, and then the state is as it was. A count that
  * a pointer leads to is written by every call that takes it, refused or not, and is not read.
+ *
+ * The calls need the floating-point environment with which a C program begins: round to nearest, flush-to-zero and denormals-are-zero off (a program that is
+ * linked with -Ofast or -ffast-math has them on), and exceptions masked, since a quotient may be worked out where it is not taken. They do not look at it: in
+ * another environment a state has other bits, or the program ends by SIGFPE.
  */
 #ifndef LINKAGE_H
 #define LINKAGE_H
