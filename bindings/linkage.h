@@ -1,18 +1,111 @@
-/* The linkage table's calls for C: link target/staticlib/libhost.a, which `rt staticlib host` makes, and -lm.
+/* The linkage table's calls for C and C++ on x86-64: link liblinkage.a and -lm.
  *
- * A card is any bytes. A state has 13 floats for each of the card's bodies (position, rotation x y z w, linear and angular velocity) and then 12 for each
- * of its joints; another length is refused by 11. Each call answers 0, or the number of document 01's refusal, and then the state is as it was. A count that
- * a pointer leads to is written by every call that takes it, refused or not, and is not read.
+ * Card and state. A card is any bytes. A state has LINKAGE_BODY_NUMBERS floats for each of the card's bodies (position, rotation x y z w, linear and angular
+ * velocity) and then LINKAGE_JOINT_NUMBERS for each of its joints; linkage_sizes says how many that is for a card, and another length is refused by 11.
  *
- * The calls need the floating-point environment with which a C program begins: round to nearest, flush-to-zero and denormals-are-zero off (a program that is
- * linked with -Ofast or -ffast-math has them on), and exceptions masked, since a quotient may be worked out where it is not taken. They do not look at it: in
- * another environment a state has other bits, or the program ends by SIGFPE.
+ * Answers. Each call takes any bytes and any floats, ends, and answers 0 or the number of document 01's refusal, and then the state is as it was. A count that a
+ * pointer leads to is written by every call that takes it, refused or not, and is not read; that pointer must not be null. errno may change.
+ *
+ * Null. The pointer of a card of 0 bytes or a state of 0 floats is not followed and may be null: the answers are 1 and, after the card's refusals, 11.
+ *
+ * Threads. The library has no variables and takes nothing from the heap: any number of threads may be in it at a time, each with its own state. They may share a
+ * card, as long as nobody writes it meanwhile.
+ *
+ * Overlap. A state and a count that a call writes must not overlap with each other or with the card. The calls do not look at this.
+ *
+ * Alignment. A card may stand at any address. States and counts are aligned as float and uint32_t are.
+ *
+ * Stack. A call takes less than LINKAGE_STACK_BYTES of the caller's stack.
+ *
+ * Environment. The calls need the floating-point environment with which a C program begins: round to nearest, flush-to-zero and denormals-are-zero off (a program
+ * that is linked with -Ofast or -ffast-math has them on), and exceptions masked, since a quotient may be worked out where it is not taken. They do not look at it:
+ * in another environment a state has other bits, or the program ends by SIGFPE. linkage_enter_environment and linkage_leave_environment, or in C++ a variable of
+ * the class linkage_environment, put a call into its environment and the host back into its own.
  */
 #ifndef LINKAGE_H
 #define LINKAGE_H
 
+#ifndef __x86_64__
+#error "liblinkage.a is for x86-64"
+#endif
+
 #include <stddef.h>
 #include <stdint.h>
+#include <xmmintrin.h>
+
+#define LINKAGE_VERSION "0.1.0"
+
+/* An edition of the card, which is a card's first byte: the bytes of a header, a body and a joint, how many bodies and joints there may be, and the ticks a
+ * second. */
+struct linkage_edition {
+    uint32_t edition, header_bytes, body_bytes, joint_bytes, most_bodies, most_joints, slowest, fastest;
+};
+
+/* The editions that the calls know, LINKAGE_EDITIONS of them. */
+static const struct linkage_edition linkage_editions[] = {
+    {1, 12, 94, 123, 32, 32, 16, 1000},
+};
+
+enum {
+    LINKAGE_EDITIONS = sizeof linkage_editions / sizeof linkage_editions[0],
+    /* The floats of a body and of a joint in the state. */
+    LINKAGE_BODY_NUMBERS = 13,
+    LINKAGE_JOINT_NUMBERS = 12,
+    /* Where they begin among a body's. */
+    LINKAGE_POSITION = 0,
+    LINKAGE_ROTATION = 3,
+    LINKAGE_LINEAR_VELOCITY = 7,
+    LINKAGE_ANGULAR_VELOCITY = 10,
+    /* The largest of all editions. */
+    LINKAGE_MOST_CARD_BYTES = 12 + 94 * 32 + 123 * 32,
+    LINKAGE_MOST_STATE_NUMBERS = LINKAGE_BODY_NUMBERS * 32 + LINKAGE_JOINT_NUMBERS * 32,
+    LINKAGE_STACK_BYTES = 24 * 1024
+};
+
+/* What a call answers: the first that applies. */
+enum linkage_answer {
+    LINKAGE_DONE = 0,
+    LINKAGE_SHORT_CARD = 1,         /* The card has under 12 bytes. */
+    LINKAGE_WRONG_EDITION = 2,      /* Its edition is none of linkage_editions. */
+    LINKAGE_WRONG_COUNTS = 3,       /* There are no bodies, or over 32 bodies or joints. */
+    LINKAGE_WRONG_RATE = 4,         /* The rate is outside 16 to 1,000. */
+    LINKAGE_WRONG_LENGTH = 5,       /* The length is not 12 + 94 bodies + 123 joints. */
+    LINKAGE_UNUSED_BITS = 6,        /* A zero bit, or a bit of a field without use in its record, is set, or a kind, limit or motor bit does not fit. */
+    LINKAGE_FLOAT_OUT_OF_RANGE = 7, /* A float is not finite or over 1,024 in size (a cap: FLT_MAX), or one that may not be is below zero: a compliance, an
+                                       inverse mass, a cap, the warm coefficient. */
+    LINKAGE_LIMIT_ORDER = 8,        /* A limit's min is above its max. */
+    LINKAGE_NOT_UNIT = 9,           /* The squares of a used rotation, basis or axis do not sum to 1, give or take 2^-10. */
+    LINKAGE_WRONG_BODIES = 10,      /* A joint names a missing body, one body twice, or two anchored ones. */
+    LINKAGE_STATE_LENGTH = 11,      /* The state has a wrong length. */
+    LINKAGE_STATE_NUMBER = 12,      /* On a tick, a number of the state is not finite, or a position coordinate is over 4,096 in size. */
+    LINKAGE_STOPPED = 13            /* The tick is stopped: after a joint's solve one of its numbers or of its two bodies', or at the end a new number of the
+                                       state, is not finite, or a new position coordinate is over 4,096 in size. */
+};
+
+/* An answer in words. */
+static inline const char *linkage_text(uint32_t answer) {
+    switch (answer) {
+    case LINKAGE_DONE: return "done";
+    case LINKAGE_SHORT_CARD: return "the card is shorter than its header";
+    case LINKAGE_WRONG_EDITION: return "the card's edition is not known";
+    case LINKAGE_WRONG_COUNTS: return "the card has no bodies, or too many bodies or joints";
+    case LINKAGE_WRONG_RATE: return "the card's rate is too low or too high";
+    case LINKAGE_WRONG_LENGTH: return "the card is not as long as its bodies and joints ask for";
+    case LINKAGE_UNUSED_BITS: return "a field of the card that has no use here is not zero, or a joint's kind, limits and motor do not go together";
+    case LINKAGE_FLOAT_OUT_OF_RANGE: return "a number of the card is not finite, too large, or below zero where it may not be";
+    case LINKAGE_LIMIT_ORDER: return "a joint's lower limit is above its upper one";
+    case LINKAGE_NOT_UNIT: return "a rotation, basis or axis of the card does not have length 1";
+    case LINKAGE_WRONG_BODIES: return "a joint's two bodies are not two, are not there, or are both anchored";
+    case LINKAGE_STATE_LENGTH: return "the state is not as long as the card's bodies and joints ask for";
+    case LINKAGE_STATE_NUMBER: return "a number of the state is not finite, or a body is too far out";
+    case LINKAGE_STOPPED: return "the tick would leave a number that is not finite, or a body too far out";
+    default: return "an answer that this version does not know";
+    }
+}
+
+#ifdef __cplusplus
+extern "C" {
+#endif
 
 /* Refusals 1 to 10 of a card. */
 uint32_t linkage_check(const uint8_t *card, size_t card_bytes);
@@ -28,5 +121,36 @@ uint32_t linkage_tick(const uint8_t *card, size_t card_bytes, float *state, size
 
 /* Ticks in a row, all or none: where one is refused, the state is as it was, and done is how many were made before it. 0 ticks are refused by 1 to 11 alone. */
 uint32_t linkage_run(const uint8_t *card, size_t card_bytes, float *state, size_t state_numbers, uint32_t ticks, uint32_t *done);
+
+#ifdef __cplusplus
+}
+#endif
+
+/* Sets the environment that the calls need, and gives the one before. The compiler does not know that arithmetic depends on it: have none of your own between
+ * entering and leaving. */
+static inline uint32_t linkage_enter_environment(void) {
+    uint32_t before = _mm_getcsr();
+    _mm_setcsr(0x1f80); /* Every exception masked and none raised, round to nearest, flush-to-zero and denormals-are-zero off. */
+    return before;
+}
+
+static inline void linkage_leave_environment(uint32_t before) {
+    _mm_setcsr(before);
+}
+
+#ifdef __cplusplus
+/* Enters the environment, and leaves it at the end of its scope. */
+class linkage_environment {
+    const uint32_t before = linkage_enter_environment();
+
+public:
+    linkage_environment() = default;
+    linkage_environment(const linkage_environment &) = delete;
+    linkage_environment &operator=(const linkage_environment &) = delete;
+    ~linkage_environment() {
+        linkage_leave_environment(before);
+    }
+};
+#endif
 
 #endif
