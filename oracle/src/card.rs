@@ -10,7 +10,7 @@ pub const JOINT_NUMBERS: usize = 12;
 pub const CAPACITY: usize = 32;
 
 /// A card as its fields, whatever they hold: not every value is one that the checks accept.
-#[derive(Clone, Debug)]
+#[derive(Clone, Debug, Default)]
 pub struct Card {
     pub edition: u32,
     pub rate: u32,
@@ -154,12 +154,11 @@ struct Reader<'a> {
 
 impl Reader<'_> {
     fn take(&mut self, width: usize) -> u32 {
-        let mut value = 0;
-        for _ in 0..width {
-            let bit = self.bytes[self.bits / 8] >> (7 - self.bits % 8) & 1;
-            value = value << 1 | bit as u32;
-            self.bits += 1;
-        }
+        // At most 10 bits, with floats behind them: they lie in the four bytes from the one in which they begin.
+        let at = self.bits / 8;
+        let word = u32::from_be_bytes(self.bytes[at..at + 4].try_into().unwrap());
+        let value = word << (self.bits % 8) >> (32 - width);
+        self.bits += width;
         value
     }
 
@@ -228,15 +227,15 @@ impl Card {
         w.bytes
     }
 
-    /// The fields of a card whose length is the one that its counts give.
-    fn decode(bytes: &[u8]) -> Card {
+    /// Takes the fields of a card whose length is the one that its counts give.
+    fn decode(&mut self, bytes: &[u8]) {
         let mut r = Reader { bytes, bits: 0 };
-        let edition = r.take(8);
+        self.edition = r.take(8);
         let bodies = r.take(6);
         let joints = r.take(6);
-        let rate = r.take(10);
-        let zero = r.take(2);
-        let [gravity, warm_coefficient] = r.floats();
+        self.rate = r.take(10);
+        self.zero = r.take(2);
+        [self.gravity, self.warm_coefficient] = r.floats();
         let body = |r: &mut Reader| Body {
             anchored: r.flag(),
             locks: [r.flag(), r.flag(), r.flag()],
@@ -268,17 +267,10 @@ impl Card {
             limit2_range: r.floats(),
             motor_numbers: r.floats(),
         };
-        let bodies = (0..bodies).map(|_| body(&mut r)).collect();
-        let joints = (0..joints).map(|_| joint(&mut r)).collect();
-        Card {
-            edition,
-            rate,
-            zero,
-            gravity,
-            warm_coefficient,
-            bodies,
-            joints,
-        }
+        self.bodies.clear();
+        self.bodies.extend((0..bodies).map(|_| body(&mut r)));
+        self.joints.clear();
+        self.joints.extend((0..joints).map(|_| joint(&mut r)));
     }
 
     pub fn dt(&self) -> f32 {
@@ -293,8 +285,15 @@ impl Card {
 // ------------------------------------------------------------------------------------------------------------------------------- checks
 
 /// The card's fields where none of the refusals 1 to 10 applies, else the number of the first that does.
-/// Each check goes over the whole card before the next begins.
 pub fn check(bytes: &[u8]) -> Result<Card, u32> {
+    let mut card = Card::default();
+    check_into(&mut card, bytes)?;
+    Ok(card)
+}
+
+/// `check` into a card whose room for bodies and joints is used again; what it holds after a refusal has no meaning.
+/// Each check goes over the whole card before the next begins.
+pub fn check_into(card: &mut Card, bytes: &[u8]) -> Result<(), u32> {
     if bytes.len() < HEADER_BYTES {
         return Err(1);
     }
@@ -314,7 +313,7 @@ pub fn check(bytes: &[u8]) -> Result<Card, u32> {
     if bytes.len() != HEADER_BYTES + BODY_BYTES * bodies + JOINT_BYTES * joints {
         return Err(5);
     }
-    let card = Card::decode(bytes);
+    card.decode(bytes);
     if card.zero != 0 || !card.bodies.iter().all(body_fits) || !card.joints.iter().all(joint_fits) {
         return Err(6);
     }
@@ -342,11 +341,20 @@ pub fn check(bytes: &[u8]) -> Result<Card, u32> {
     {
         return Err(10);
     }
-    Ok(card)
+    Ok(())
+}
+
+/// Whether all are so. It looks at each, which takes less time than to stop at the first that is not.
+fn each(numbers: &[f32], so: impl Fn(f32) -> bool) -> bool {
+    numbers.iter().fold(true, |all, number| all & so(*number))
+}
+
+pub fn finite(numbers: &[f32]) -> bool {
+    each(numbers, f32::is_finite)
 }
 
 fn clear(numbers: &[f32]) -> bool {
-    numbers.iter().all(|number| number.to_bits() == 0)
+    each(numbers, |number| number.to_bits() == 0)
 }
 
 /// 6 on a body.
@@ -385,11 +393,9 @@ fn joint_fits(joint: &Joint) -> bool {
         && (joint.motor != 0 || clear(&joint.motor_numbers))
 }
 
-/// Finite and at most 1,024 in size.
+/// At most 1,024 in size, which no infinity and no NaN is.
 fn within(numbers: &[f32]) -> bool {
-    numbers
-        .iter()
-        .all(|number| number.is_finite() && number.abs() <= 1024.0)
+    each(numbers, |number| number.abs() <= 1024.0)
 }
 
 /// 7 on a body.
@@ -453,19 +459,17 @@ pub fn check_state_length(card: &Card, state: &[f32]) -> Result<(), u32> {
     }
 }
 
+/// At most 4,096 in size, which no infinity and no NaN is.
 pub fn position_in_range(position: &[f32]) -> bool {
-    position
-        .iter()
-        .all(|number| number.is_finite() && number.abs() <= 4096.0)
+    each(position, |number| number.abs() <= 4096.0)
 }
 
 /// 12, of a state of the right length.
 pub fn check_state_numbers(card: &Card, state: &[f32]) -> Result<(), u32> {
-    let finite = state.iter().all(|number| number.is_finite());
     let near = state[..BODY_NUMBERS * card.bodies.len()]
-        .chunks(BODY_NUMBERS)
+        .chunks_exact(BODY_NUMBERS)
         .all(|body| position_in_range(&body[..3]));
-    if finite && near {
+    if finite(state) && near {
         Ok(())
     } else {
         Err(12)
