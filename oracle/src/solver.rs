@@ -218,9 +218,9 @@ const BODY2: Entity = Entity(1);
 const JOINT: Entity = Entity(2);
 
 /// avian's component of a joint with its solver data.
-struct Solved<C: XpbdConstraint<2>> {
-    joint: C,
-    data: C::SolverData,
+pub(crate) struct Solved<C: XpbdConstraint<2>> {
+    pub(crate) joint: C,
+    pub(crate) data: C::SolverData,
 }
 
 impl<C> Solved<C>
@@ -228,21 +228,23 @@ where
     C: XpbdConstraint<2> + EntityConstraint<2>,
     C::SolverData: State,
 {
-    fn prepare(joint: C, body1: &Pose, body2: &Pose, warm: [f32; 3]) -> Self {
-        let mut prepared = Self {
+    fn new(joint: C) -> Self {
+        Self {
             joint,
             data: Default::default(),
-        };
-        prepared.data.set_motor_total(warm);
+        }
+    }
+
+    fn prepare(&mut self, body1: &Pose, body2: &Pose, warm: [f32; 3]) {
+        self.data.set_motor_total(warm);
         prepare_xpbd_joint::<C>(
             Query::of_two((BODY1, body1.into()), (BODY2, body2.into())),
-            Query::of_one(JOINT, (&mut prepared.joint, &mut prepared.data)),
+            Query::of_one(JOINT, (&mut self.joint, &mut self.data)),
         );
-        prepared
     }
 }
 
-enum AnyJoint {
+pub(crate) enum AnyJoint {
     Fixed(Solved<FixedJoint>),
     Hinge(Solved<RevoluteJoint>),
     Slide(Solved<PrismaticJoint>),
@@ -261,76 +263,82 @@ macro_rules! for_any_joint {
         }
     };
 }
+pub(crate) use for_any_joint;
 
-/// avian's joint component and its solver data.
-pub struct Prepared(AnyJoint);
-
-/// avian's `prepare`. `warm` is the motor's warm value; a slide's is in x.
-pub fn prepare(joint: &Joint, body1: &Pose, body2: &Pose, warm: [f32; 3]) -> Prepared {
-    let (anchor1, anchor2) = (joint.anchor1.into(), joint.anchor2.into());
-    let [first, second, third, _] = joint.compliances;
-    macro_rules! framed {
-        ($Joint:ident) => {
-            $Joint::new(BODY1, BODY2)
-                .with_local_anchor1(anchor1)
-                .with_local_anchor2(anchor2)
-                .with_local_basis1(joint.basis1)
-                .with_local_basis2(joint.basis2)
-        };
-    }
-    let angle_limit = |limit: [f32; 2]| AngleLimit::from(limit);
-    Prepared(match joint.kind {
-        Kind::Fixed => {
-            let fixed = framed!(FixedJoint)
-                .with_point_compliance(first)
-                .with_angle_compliance(second);
-            AnyJoint::Fixed(Solved::prepare(fixed, body1, body2, warm))
+impl From<&Joint> for AnyJoint {
+    fn from(joint: &Joint) -> AnyJoint {
+        let (anchor1, anchor2) = (joint.anchor1.into(), joint.anchor2.into());
+        let [first, second, third, _] = joint.compliances;
+        macro_rules! framed {
+            ($Joint:ident) => {
+                $Joint::new(BODY1, BODY2)
+                    .with_local_anchor1(anchor1)
+                    .with_local_anchor2(anchor2)
+                    .with_local_basis1(joint.basis1)
+                    .with_local_basis2(joint.basis2)
+            };
         }
-        Kind::Hinge => {
-            let mut hinge = framed!(RevoluteJoint)
-                .with_hinge_axis(joint.axis.into())
-                .with_point_compliance(first)
-                .with_align_compliance(second)
-                .with_limit_compliance(third);
-            hinge.angle_limit = joint.limit1.map(angle_limit);
-            if let Some(motor) = joint.motor {
-                hinge.motor = motor.into();
+        let angle_limit = |limit: [f32; 2]| AngleLimit::from(limit);
+        match joint.kind {
+            Kind::Fixed => {
+                let fixed = framed!(FixedJoint)
+                    .with_point_compliance(first)
+                    .with_angle_compliance(second);
+                AnyJoint::Fixed(Solved::new(fixed))
             }
-            AnyJoint::Hinge(Solved::prepare(hinge, body1, body2, warm))
-        }
-        Kind::Slide => {
-            let mut slide = framed!(PrismaticJoint)
-                .with_slider_axis(joint.axis.into())
-                .with_angle_compliance(first)
-                .with_align_compliance(second);
-            slide.limits = joint.limit1.map(DistanceLimit::from);
-            if let Some(motor) = joint.motor {
-                slide.motor = motor.into();
+            Kind::Hinge => {
+                let mut hinge = framed!(RevoluteJoint)
+                    .with_hinge_axis(joint.axis.into())
+                    .with_point_compliance(first)
+                    .with_align_compliance(second)
+                    .with_limit_compliance(third);
+                hinge.angle_limit = joint.limit1.map(angle_limit);
+                if let Some(motor) = joint.motor {
+                    hinge.motor = motor.into();
+                }
+                AnyJoint::Hinge(Solved::new(hinge))
             }
-            AnyJoint::Slide(Solved::prepare(slide, body1, body2, warm))
-        }
-        Kind::Ball => {
-            let mut ball = framed!(SphericalJoint)
-                .with_twist_axis(joint.axis.into())
-                .with_point_compliance(first)
-                .with_swing_compliance(second)
-                .with_twist_compliance(third);
-            ball.swing_limit = joint.limit1.map(angle_limit);
-            ball.twist_limit = joint.limit2.map(angle_limit);
-            AnyJoint::Ball(Solved::prepare(ball, body1, body2, warm))
-        }
-        Kind::Tether => {
-            let tether = DistanceJoint {
+            Kind::Slide => {
+                let mut slide = framed!(PrismaticJoint)
+                    .with_slider_axis(joint.axis.into())
+                    .with_angle_compliance(first)
+                    .with_align_compliance(second);
+                slide.limits = joint.limit1.map(DistanceLimit::from);
+                if let Some(motor) = joint.motor {
+                    slide.motor = motor.into();
+                }
+                AnyJoint::Slide(Solved::new(slide))
+            }
+            Kind::Ball => {
+                let mut ball = framed!(SphericalJoint)
+                    .with_twist_axis(joint.axis.into())
+                    .with_point_compliance(first)
+                    .with_swing_compliance(second)
+                    .with_twist_compliance(third);
+                ball.swing_limit = joint.limit1.map(angle_limit);
+                ball.twist_limit = joint.limit2.map(angle_limit);
+                AnyJoint::Ball(Solved::new(ball))
+            }
+            Kind::Tether => AnyJoint::Tether(Solved::new(DistanceJoint {
                 body1: BODY1,
                 body2: BODY2,
                 anchor1: JointAnchor::Local(anchor1),
                 anchor2: JointAnchor::Local(anchor2),
                 limits: joint.limit1.expect("a tether has its first limit").into(),
                 compliance: first,
-            };
-            AnyJoint::Tether(Solved::prepare(tether, body1, body2, warm))
+            })),
         }
-    })
+    }
+}
+
+/// avian's joint component and its solver data.
+pub struct Prepared(AnyJoint);
+
+/// avian's `prepare`. `warm` is the motor's warm value; a slide's is in x.
+pub fn prepare(joint: &Joint, body1: &Pose, body2: &Pose, warm: [f32; 3]) -> Prepared {
+    let mut any = AnyJoint::from(joint);
+    for_any_joint!(&mut any, s => s.prepare(body1, body2, warm));
+    Prepared(any)
 }
 
 /// avian's `warm_start_motors`.
@@ -377,16 +385,20 @@ impl Prepared {
 
     /// The prepared numbers but the totals and the warm value.
     pub fn numbers(&self) -> Vec<f32> {
-        for_any_joint!(&self.0, s => s.data.numbers().collect())
+        let mut numbers = Vec::new();
+        for_any_joint!(&self.0, s => s.data.for_each_number(|number| numbers.push(number)));
+        numbers
     }
 
     /// Whether every prepared number and total is finite.
     pub fn is_finite(&self) -> bool {
-        self.totals()
+        let mut finite = self
+            .totals()
             .as_flattened()
             .iter()
-            .all(|total| total.is_finite())
-            && for_any_joint!(&self.0, s => s.data.numbers().all(|number| number.is_finite()))
+            .all(|total| total.is_finite());
+        for_any_joint!(&self.0, s => s.data.for_each_number(|number| finite &= number.is_finite()));
+        finite
     }
 }
 

@@ -29,22 +29,33 @@ pub trait State: XpbdConstraintSolverData + Default {
     /// The last motor total, as if this data had been kept since the last tick. A slide's is in x.
     fn set_motor_total(&mut self, _: [f32; 3]) {}
 
+    /// The motor's total in this data; zero of a kind that has no motor.
+    fn motor_total(&self) -> [f32; 3] {
+        UNUSED
+    }
+
     /// Four totals of three, in the state's order; places without use are +0.0.
     fn totals(&self) -> [[f32; 3]; 4];
 
-    /// The prepared numbers, in the order of their fields.
-    fn numbers(&self) -> impl Iterator<Item = f32>;
+    /// Calls `f` with each prepared number, in the order of their fields.
+    fn for_each_number(&self, f: impl FnMut(f32));
 }
 
 const UNUSED: [f32; 3] = [0.0; 3];
 
-fn of_vectors<const N: usize>(vectors: [Vector; N]) -> impl Iterator<Item = f32> {
-    vectors.into_iter().flat_map(|v| v.to_array())
+fn each_of(numbers: &[f32], f: impl FnMut(f32)) {
+    numbers.iter().copied().for_each(f);
+}
+
+fn each_of_vectors(vectors: &[Vector], mut f: impl FnMut(f32)) {
+    for vector in vectors {
+        each_of(&vector.to_array(), &mut f);
+    }
 }
 
 impl PointConstraintShared {
-    fn numbers(&self) -> impl Iterator<Item = f32> + use<> {
-        of_vectors([self.world_r1, self.world_r2, self.center_difference])
+    fn for_each_number(&self, f: impl FnMut(f32)) {
+        each_of_vectors(&[self.world_r1, self.world_r2, self.center_difference], f);
     }
 }
 
@@ -58,10 +69,9 @@ impl State for FixedJointSolverData {
         ]
     }
 
-    fn numbers(&self) -> impl Iterator<Item = f32> {
-        self.point_constraint
-            .numbers()
-            .chain(self.angle_constraint.rotation_difference.to_array())
+    fn for_each_number(&self, mut f: impl FnMut(f32)) {
+        self.point_constraint.for_each_number(&mut f);
+        each_of(&self.angle_constraint.rotation_difference.to_array(), f);
     }
 }
 
@@ -70,19 +80,22 @@ impl State for RevoluteJointSolverData {
         self.total_motor_lagrange = total.into();
     }
 
+    fn motor_total(&self) -> [f32; 3] {
+        self.total_motor_lagrange.to_array()
+    }
+
     fn totals(&self) -> [[f32; 3]; 4] {
         [
             self.point_constraint.total_lagrange.to_array(),
             self.total_align_lagrange.to_array(),
             self.total_limit_lagrange.to_array(),
-            self.total_motor_lagrange.to_array(),
+            self.motor_total(),
         ]
     }
 
-    fn numbers(&self) -> impl Iterator<Item = f32> {
-        self.point_constraint
-            .numbers()
-            .chain(of_vectors([self.a1, self.a2, self.b1, self.b2]))
+    fn for_each_number(&self, mut f: impl FnMut(f32)) {
+        self.point_constraint.for_each_number(&mut f);
+        each_of_vectors(&[self.a1, self.a2, self.b1, self.b2], f);
     }
 }
 
@@ -91,23 +104,28 @@ impl State for PrismaticJointSolverData {
         self.total_motor_lagrange = total[0];
     }
 
+    fn motor_total(&self) -> [f32; 3] {
+        [self.total_motor_lagrange, 0.0, 0.0]
+    }
+
     fn totals(&self) -> [[f32; 3]; 4] {
         [
             self.total_position_lagrange.to_array(),
             self.angle_constraint.total_lagrange.to_array(),
-            [self.total_motor_lagrange, 0.0, 0.0],
+            self.motor_total(),
             UNUSED,
         ]
     }
 
-    fn numbers(&self) -> impl Iterator<Item = f32> {
-        of_vectors([
+    fn for_each_number(&self, mut f: impl FnMut(f32)) {
+        let vectors = [
             self.world_r1,
             self.world_r2,
             self.center_difference,
             self.free_axis1,
-        ])
-        .chain(self.angle_constraint.rotation_difference.to_array())
+        ];
+        each_of_vectors(&vectors, &mut f);
+        each_of(&self.angle_constraint.rotation_difference.to_array(), f);
     }
 }
 
@@ -121,13 +139,15 @@ impl State for SphericalJointSolverData {
         ]
     }
 
-    fn numbers(&self) -> impl Iterator<Item = f32> {
-        self.point_constraint.numbers().chain(of_vectors([
+    fn for_each_number(&self, mut f: impl FnMut(f32)) {
+        self.point_constraint.for_each_number(&mut f);
+        let vectors = [
             self.swing_axis1,
             self.swing_axis2,
             self.twist_axis1,
             self.twist_axis2,
-        ]))
+        ];
+        each_of_vectors(&vectors, f);
     }
 }
 
@@ -136,7 +156,7 @@ impl State for DistanceJointSolverData {
         [self.total_lagrange.to_array(), UNUSED, UNUSED, UNUSED]
     }
 
-    fn numbers(&self) -> impl Iterator<Item = f32> {
-        of_vectors([self.world_r1, self.world_r2, self.center_difference])
+    fn for_each_number(&self, f: impl FnMut(f32)) {
+        each_of_vectors(&[self.world_r1, self.world_r2, self.center_difference], f);
     }
 }
