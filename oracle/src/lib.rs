@@ -5,6 +5,7 @@ pub mod compare;
 pub mod generate;
 #[cfg(feature = "host")]
 pub mod host;
+pub mod lean;
 pub mod parts;
 pub mod solver;
 pub mod table;
