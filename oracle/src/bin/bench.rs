@@ -1,20 +1,25 @@
-//! The cost of a tick of the oracle and of the Rattle, on the same cards, as tables in Markdown. A round is 100 ticks from the start state.
+//! The cost of a tick in lean Rust and in Rattle, on the same cards, as tables in Markdown. A round is 100 ticks from the start state.
 //!
 //! - `bench time [ROUNDS]`: nanoseconds, over so many rounds in each of several processes.
 //! - `bench samples ROUNDS`: what one of these processes measures. Each round goes through all cards, and on each card both sides by turns.
 //! - `bench mixed`: what the mixed card has.
 //! - `bench instructions`: instructions, counted by valgrind's callgrind over `bench rounds`.
-//! - `bench rounds SIDE CALL CARD ROUNDS`: so many rounds of one side (`oracle`, `rattle`) by one call (`tick`, `run`), and nothing else that depends
+//! - `bench rounds SIDE CALL CARD ROUNDS`: so many rounds of one side (`rust`, `rattle`) by one call (`tick`, `run`), and nothing else that depends
 //!   on their number: the difference of one round and two is what a round takes.
+//!
+//! It stops where a round leaves another state than the oracle's, or takes from the heap.
 
 use oracle::card::{
     Body, Card, Joint, BALL, BODY_NUMBERS, HINGE, JOINT_NUMBERS, KINDS, SLIDE, TETHER,
 };
-use oracle::compare::{all_same, Table, ORACLE};
+use oracle::compare::{all_same, Table};
+use oracle::lean::LEAN;
 use oracle::table::Ran;
 use oracle::{host, math, table};
+use std::alloc::{GlobalAlloc, Layout, System};
 use std::env;
 use std::process::Command;
+use std::sync::atomic::{AtomicU64, Ordering};
 use std::time::Instant;
 
 const TICKS: u32 = 100;
@@ -27,15 +32,45 @@ const WHOLE_ROUND: Ran = Ran {
 
 /// On one machine the Rattle's times differed by up to a tenth from process to process, for a reason that is not known, so that they are taken from several.
 const PROCESSES: usize = 11;
-const SIDES: [&str; 2] = ["oracle", "rattle"];
+const SIDES: [&str; 2] = ["rust", "rattle"];
 const CALLS: [&str; 2] = ["tick", "run"];
 
+/// A side's calls. The lean Rust has its room for the largest card after this.
 fn side(name: &str) -> Table {
     match name {
-        "oracle" => ORACLE,
+        "rust" => {
+            assert_eq!((LEAN.tick)(&[], &mut []), 1);
+            LEAN
+        }
         "rattle" => host::table(),
         _ => panic!("no side {name}"),
     }
+}
+
+// --------------------------------------------------------------------------------------------------------------------------------- heap
+
+/// The system's allocator, which counts how often it is asked.
+struct Counted;
+
+static TAKEN: AtomicU64 = AtomicU64::new(0);
+
+// SAFETY: each call is the system's.
+unsafe impl GlobalAlloc for Counted {
+    unsafe fn alloc(&self, layout: Layout) -> *mut u8 {
+        TAKEN.fetch_add(1, Ordering::Relaxed);
+        unsafe { System.alloc(layout) }
+    }
+
+    unsafe fn dealloc(&self, at: *mut u8, layout: Layout) {
+        unsafe { System.dealloc(at, layout) }
+    }
+}
+
+#[global_allocator]
+static COUNTED: Counted = Counted;
+
+fn taken() -> u64 {
+    TAKEN.load(Ordering::Relaxed)
 }
 
 // -------------------------------------------------------------------------------------------------------------------------------- cards
@@ -45,6 +80,8 @@ struct Case {
     card: Card,
     bytes: Vec<u8>,
     start: Vec<f32>,
+    /// The oracle's state after a round.
+    end: Vec<f32>,
 }
 
 /// Links a step apart along x, the first anchored, and as many joints: the last goes back to the first link, so that a joint has one body in each length. A
@@ -96,11 +133,14 @@ fn linkage(name: &str, joints: usize, reach: f32, kind: impl Fn(usize) -> u32) -
     }
     let bytes = card.encode();
     let start = table::start_state(&card);
+    let mut end = start.clone();
+    assert_eq!(table::run(&bytes, &mut end, TICKS), WHOLE_ROUND);
     Case {
         name: name.to_string(),
         card,
         bytes,
         start,
+        end,
     }
 }
 
@@ -154,14 +194,12 @@ fn gap(joint: &Joint, state: &[f32]) -> f32 {
 
 /// After a round the linkage still holds together, and nothing is faster than a fall of that time or two.
 fn assert_sensible(case: &Case) {
-    let mut state = case.start.clone();
-    assert_eq!(table::run(&case.bytes, &mut state, TICKS), WHOLE_ROUND);
     let fall = 9.75 * TICKS as f32 * case.card.dt();
     for (joint, i) in case.card.joints.iter().zip(0..) {
-        let gap = gap(joint, &state);
+        let gap = gap(joint, &case.end);
         assert!(gap < 0.1, "{}: joint {i} is {gap} apart", case.name);
     }
-    for numbers in state.chunks(BODY_NUMBERS).take(case.card.bodies.len()) {
+    for numbers in case.end.chunks(BODY_NUMBERS).take(case.card.bodies.len()) {
         let [velocity, turning] = [7, 10].map(|at| length(numbers[at..at + 3].try_into().unwrap()));
         assert!(velocity < 2.0 * fall && turning < 2.0 * fall);
     }
@@ -183,7 +221,18 @@ fn round(table: &Table, call: &str, case: &Case, state: &mut [f32]) {
     }
 }
 
-/// The figures of a case, for each call those of the oracle and of the Rattle.
+/// Nanoseconds a tick of one round, which takes nothing from the heap and leaves the oracle's state.
+fn time(table: &Table, call: &str, case: &Case, state: &mut [f32]) -> f64 {
+    let before = taken();
+    let begun = Instant::now();
+    round(table, call, case, state);
+    let nanoseconds = begun.elapsed().as_nanos() as f64;
+    assert_eq!(taken(), before, "{} takes from the heap", case.name);
+    assert!(all_same(state, &case.end), "{}: states differ", case.name);
+    nanoseconds / TICKS as f64
+}
+
+/// The figures of a case, for each call those of the Rust and of the Rattle.
 type Figures = [[f64; 2]; 2];
 
 fn median(numbers: &mut [f64]) -> f64 {
@@ -191,7 +240,7 @@ fn median(numbers: &mut [f64]) -> f64 {
     numbers[numbers.len() / 2]
 }
 
-/// The times of a case, for each call those of the oracle and of the Rattle.
+/// The times of a case, for each call those of the Rust and of the Rattle.
 type Samples = [[Vec<f64>; 2]; 2];
 
 /// Times of each case in this process.
@@ -200,15 +249,11 @@ fn samples(cases: &[Case], rounds: usize) -> Vec<Samples> {
     let mut lists: Vec<Samples> = cases.iter().map(|_| Default::default()).collect();
     for _ in 0..rounds {
         for (case, lists) in cases.iter().zip(&mut lists) {
-            let mut states = [case.start.clone(), case.start.clone()];
+            let mut state = case.start.clone();
             for (call, lists) in CALLS.iter().zip(lists) {
-                for ((table, state), list) in tables.iter().zip(&mut states).zip(lists) {
-                    let begun = Instant::now();
-                    round(table, call, case, state);
-                    list.push(begun.elapsed().as_nanos() as f64 / TICKS as f64);
+                for (table, list) in tables.iter().zip(lists) {
+                    list.push(time(table, call, case, &mut state));
                 }
-                let [one, other] = &states;
-                assert!(all_same(one, other), "{}: the states differ", case.name);
             }
         }
     }
@@ -277,20 +322,24 @@ fn instructions(cases: &[Case]) -> Vec<Figures> {
         let of_case = |case| CALLS.map(|call| count(side, call, case));
         cases.iter().map(of_case).collect()
     };
-    let [oracle, rattle] = std::thread::scope(|scope| {
+    let [rust, rattle] = std::thread::scope(|scope| {
         SIDES
             .map(|side| scope.spawn(move || of_side(side)))
             .map(|thread| thread.join().unwrap())
     });
     let by_call =
-        |(oracle, rattle): (&[f64; 2], &[f64; 2])| [0, 1].map(|call| [oracle[call], rattle[call]]);
-    oracle.iter().zip(&rattle).map(by_call).collect()
+        |(rust, rattle): (&[f64; 2], &[f64; 2])| [0, 1].map(|call| [rust[call], rattle[call]]);
+    rust.iter().zip(&rattle).map(by_call).collect()
 }
 
 // ------------------------------------------------------------------------------------------------------------------------------- tables
 
 fn whole(x: f64) -> String {
     format!("{x:.0}")
+}
+
+fn ratio(a: f64, b: f64) -> String {
+    format!("{:.2}", a / b)
 }
 
 fn row(cells: &[String]) {
@@ -339,15 +388,11 @@ fn print_times(rounds: usize) {
     let times = times(&cases, rounds);
     for (call, name) in CALLS.iter().enumerate() {
         println!("Nanoseconds a tick by `{name}`, over {rounds} rounds in each of {PROCESSES} processes:\n");
-        head("card | oracle, median | Rattle, median | ratio | oracle, least | Rattle, least | ratio | Rattle a joint, median");
+        head("card | Rust, median | Rattle, median | ratio | Rust, least | Rattle, least | ratio | Rattle a joint, median");
         for (case, (medians, least)) in cases.iter().zip(&times) {
             let mut cells = vec![case.name.clone()];
-            for [oracle, rattle] in [medians[call], least[call]] {
-                cells.extend([
-                    whole(oracle),
-                    whole(rattle),
-                    format!("{:.2}", rattle / oracle),
-                ]);
+            for [rust, rattle] in [medians[call], least[call]] {
+                cells.extend([whole(rust), whole(rattle), ratio(rattle, rust)]);
             }
             cells.push(whole(medians[call][1] / case.card.joints.len() as f64));
             row(&cells);
@@ -363,15 +408,11 @@ fn print_instructions() {
     let cases = cases();
     let figures = instructions(&cases);
     println!("Instructions a tick:\n");
-    head("card | oracle, tick | Rattle, tick | ratio | oracle, run | Rattle, run | ratio | Rattle a joint, run");
+    head("card | Rust, tick | Rattle, tick | ratio | Rust, run | Rattle, run | ratio | Rattle a joint, run");
     for (case, figures) in cases.iter().zip(&figures) {
         let mut cells = vec![case.name.clone()];
-        for [oracle, rattle] in figures {
-            cells.extend([
-                whole(*oracle),
-                whole(*rattle),
-                format!("{:.2}", rattle / oracle),
-            ]);
+        for [rust, rattle] in figures {
+            cells.extend([whole(*rust), whole(*rattle), ratio(*rattle, *rust)]);
         }
         cells.push(whole(figures[1][1] / case.card.joints.len() as f64));
         row(&cells);
