@@ -1,6 +1,7 @@
 -- Each is proved where it belongs.
 use Rattle.root.proofs.Closest.{root-exact}
 use Rattle.series.proofs.Nearest.{nearest}
+use Rattle.series.proofs.Interpolation.{interpolation}
 use Rattle.trig.proofs.Accuracy.{accurate}
 use Rattle.table.proofs.Examples as line
 use Rattle.examples.proofs.Examples as marked
@@ -13,6 +14,7 @@ promises =
     record {
       root = root-exact;
       tables = nearest;
+      interpolation = interpolation;
       accuracy = accurate;
       demand = demand-three;
       sample = sample-holds;

@@ -4,6 +4,7 @@ use lib.Ieee.{Float, binary32, fits}
 use lib.Ieee.Positive.{positive}
 use Rattle.root.specs.Nearest.{RootIsNearest}
 use Rattle.series.specs.Nearest.{Nearest}
+use Rattle.series.specs.Interpolation.{Interpolation}
 use Rattle.trig.specs.Accuracy.{Accurate}
 use Rattle.table.specs.Examples as line
 use Rattle.examples.specs.Examples as marked
@@ -13,6 +14,7 @@ use Rattle.demand.specs.Sample.{Sample}
 pub record Promises : Type 0 where
   pub root : (x : Float) → T (fits binary32 x) → T (positive x) → RootIsNearest x
   pub tables : Nearest
+  pub interpolation : Interpolation
   pub accuracy : Accurate
   pub demand : DemandThree
   pub sample : Sample

@@ -1,18 +1,18 @@
 -- The arctangent by its table: for 0 ≤ k < 2^24 the table's result is within 262 · 2^-30 of Euler's sum of 40 terms at k / 2^24.
 use mathlib.Core.Path.{_≡_, sym, subst, refl, ap, _∙_}
-use Prim.Native.Nat.{ℕ, suc, _+_, _*_, _^_, _/_, _≤_, _<_, _-_, _%_}
+use Prim.Native.Nat.{ℕ, suc, _+_, _*_, _^_, _/_, _≤_, _<_, _%_}
 use native.Mathlib.Nat.{mul-le-mul-left, mul-le-mul-right, le-trans, le-of-mul-le-mul-left, le-of-mul-le-mul-right, mul-pos, div-mul-le-self, lt-div-mul-add, div-add-mod', mod-lt, one-le-pow, mul-div-mul-left, div-lt-iff-lt-mul, mul-left-comm}
 use native.Mathlib.Omega.{arith}
 use Rattle.series.specs.Series.{eulerDenominator, eulerTerm, eulerSum}
-use Rattle.series.proofs.EulerGrowth.{ev, od, v}
-use Rattle.series.proofs.Chord.{Sloped}
+use Rattle.series.proofs.EulerGrowth.{ev, od}
+use Rattle.series.specs.Interpolation.{Sloped, At, Line}
 use lib.Dec.{leb, leb→le, lit≤, lit<}
 use lib.ListN.{getD}
 use lib.Ieee.Fits.{and-l, and-r}
 use Rattle.series.specs.Tables.{arcs}
 use Rattle.series.specs.Nearest.{nearAtan}
 use Rattle.series.proofs.Nearest.{nearest}
-use Rattle.series.proofs.Interpolation.{At, Result, between}
+use Rattle.series.proofs.Interpolation.{interpolation}
 use Rattle.series.proofs.EulerSums.{den-pos, same-den, same-num, Sum}
 use Rattle.series.proofs.EulerSlope.{arc, lean, arc-sloped}
 
@@ -88,12 +88,7 @@ slope-small x h = go (2 ^ 80 * 2 ^ 24 / (x * x + 2 ^ 24 * 2 ^ 24)) (x * x + 2 ^ 
     go : (l A : ℕ) → l * A ≤ 2 ^ 104 → 2 ^ 48 ≤ A → l ≤ 0 + 2 ^ 56
     go l A h k = le-of-mul-le-mul-right {k = 2 ^ 48} (le-trans (mul-le-mul-left l k) (le-trans h (lit≤ tt))) (lit< tt)
 
--- the table's line at the fraction f / 2^14, divided by 64
-pub record Line (f p₀ p₁ m : ℕ) : Type 0 where
-  pub high : (16384 - f) * p₀ + f * p₁ ≤ 16384 * (64 * m) + 16384 * 65
-  pub low : 16384 * (64 * m) ≤ (16384 - f) * p₀ + f * p₁ + 16384 * 65
-
-arc-close : (k : ℕ) → k < 2 ^ 24 → (m : ℕ) → Line (k % 16384) (getD arcs (k / 16384) 0) (getD arcs (suc (k / 16384)) 0) m → Result (2 ^ 30) (2 ^ 80) (1 + 129 + 65 + 65) (sum k) 0 m 0
+arc-close : (k : ℕ) → k < 2 ^ 24 → (m : ℕ) → Line 16384 (k % 16384) (getD arcs (k / 16384) 0) 0 (getD arcs (suc (k / 16384)) 0) 0 m 0 → At (2 ^ 30) (2 ^ 80) (1 + 129 + 65 + 65) (sum k) 0 (64 * m) 0
 arc-close k h m t =
     let i = k / 16384 in
     let f = k % 16384 in
@@ -102,42 +97,29 @@ arc-close k h m t =
     let i< : i < 1024 = div-lt-iff-lt-mul (lit< tt) .1 h in
     go i f (getD arcs i 0) (getD arcs (suc i) 0) split f< i< (at-node i (omega arith)) (at-node (suc i) (omega arith)) t
   where
-    go : (i f p₀ p₁ : ℕ) → i * 16384 + f ≡ k → f < 16384 → i < 1024 → At (2 ^ 30) (2 ^ 80) 1 (sum (16384 * i)) 0 p₀ 0 → At (2 ^ 30) (2 ^ 80) 1 (sum (16384 * suc i)) 0 p₁ 0 → Line f p₀ p₁ m → Result (2 ^ 30) (2 ^ 80) (1 + 129 + 65 + 65) (sum k) 0 m 0
+    go : (i f p₀ p₁ : ℕ) → i * 16384 + f ≡ k → f < 16384 → i < 1024 → At (2 ^ 30) (2 ^ 80) 1 (sum (16384 * i)) 0 p₀ 0 → At (2 ^ 30) (2 ^ 80) 1 (sum (16384 * suc i)) 0 p₁ 0 → Line 16384 f p₀ 0 p₁ 0 m 0 → At (2 ^ 30) (2 ^ 80) (1 + 129 + 65 + 65) (sum k) 0 (64 * m) 0
     go i f p₀ p₁ e f< i< a₀ a₁ t =
-        let v = 16384 - f in
-        let there : 16384 * suc i ≡ 16384 * i + f + v = omega arith in
+        let there : 16384 * suc i ≡ 16384 * i + 16384 = omega arith in
         let here : 16384 * i + f ≡ k = omega arith in
-        subst (λ (x : ℕ). Result (2 ^ 30) (2 ^ 80) (1 + 129 + 65 + 65) (sum x) 0 m 0) here
-        (between sum (λ x. 0) slope (λ x. 0) (3 * 2 ^ 32 + 2 ^ 8 + 2) (2 ^ 32 + 2 ^ 8 + 1) (2 ^ 24) sloped (2 ^ 56) slope-small (λ x h. omega arith) (2 ^ 30) (2 ^ 80) 16384 1 129 65 16384 (lit< tt) (lit< tt) (lit< tt) (lit≤ tt) (lit≤ tt)
-        (16384 * i) f v f v 0 p₀ 0 p₁ 0 m 0 (omega arith) (omega arith) a₀ (subst (λ (x : ℕ). At (2 ^ 30) (2 ^ 80) 1 (sum x) 0 p₁ 0) there a₁) (frac f v (omega arith)) (cofrac f v (omega arith)) (omega arith) (line f v (t .high)) (line' f v (t .low)))
-      where
-        frac : (f v : ℕ) → f + v ≡ 16384 → f * 16384 ≡ f * (f + v) + 0
-        frac f v e = rw e (omega arith)
-
-        cofrac : (f v : ℕ) → f + v ≡ 16384 → v * 16384 + 0 ≡ v * (f + v)
-        cofrac f v e = rw e (omega arith)
-
-        line : (f v : ℕ) → v * p₀ + f * p₁ ≤ 16384 * (64 * m) + 16384 * 65 → v * p₀ + f * p₁ + 16384 * (64 * 0) ≤ v * 0 + f * 0 + 16384 * (64 * m) + 16384 * 65
-        line f v h = omega arith
-
-        line' : (f v : ℕ) → 16384 * (64 * m) ≤ v * p₀ + f * p₁ + 16384 * 65 → v * 0 + f * 0 + 16384 * (64 * m) ≤ v * p₀ + f * p₁ + 16384 * (64 * 0) + 16384 * 65
-        line' f v h = omega arith
+        subst (λ (x : ℕ). At (2 ^ 30) (2 ^ 80) (1 + 129 + 65 + 65) (sum x) 0 (64 * m) 0) here
+        (interpolation sum (λ x. 0) slope (λ x. 0) (3 * 2 ^ 32 + 2 ^ 8 + 2) (2 ^ 32 + 2 ^ 8 + 1) (2 ^ 24) (2 ^ 56) (2 ^ 30) (2 ^ 80) 1 129 65 16384 16384 sloped (record { rises = slope-small; sinks = λ x h. omega arith }) (lit< tt) (lit< tt) (lit< tt) (lit≤ tt) (lit≤ tt)
+        (16384 * i) f f p₀ 0 p₁ 0 m 0 (omega arith) (omega arith) (omega arith) (omega arith) a₀ (subst (λ (x : ℕ). At (2 ^ 30) (2 ^ 80) 1 (sum x) 0 p₁ 0) there a₁) t)
 
 -- from the floor of `sum` to the fraction
-from-floor : (N D S m : ℕ) → 0 < D → S ≡ 2 ^ 80 * N / D → Result (2 ^ 30) (2 ^ 80) (1 + 129 + 65 + 65) S 0 m 0 → (64 * m * D ≤ 2 ^ 30 * N + 260 * D) × (2 ^ 30 * N ≤ (64 * m + 261) * D)
+from-floor : (N D S m : ℕ) → 0 < D → S ≡ 2 ^ 80 * N / D → At (2 ^ 30) (2 ^ 80) (1 + 129 + 65 + 65) S 0 (64 * m) 0 → (64 * m * D ≤ 2 ^ 30 * N + 260 * D) × (2 ^ 30 * N ≤ (64 * m + 261) * D)
 from-floor N D S m pos e r =
     let lo : S * D ≤ 2 ^ 80 * N = subst (λ (x : ℕ). x * D ≤ 2 ^ 80 * N) (sym e) (div-mul-le-self (2 ^ 80 * N) D) in
     let hi : 2 ^ 80 * N < S * D + D = subst (λ (x : ℕ). 2 ^ 80 * N < x * D + D) (sym e) (lt-div-mul-add {a = 2 ^ 80 * N} {b = D} pos) in
     (le-of-mul-le-mul-left {k = 2 ^ 80} (low lo (mul-le-mul-right D (r .low))) (lit< tt), le-of-mul-le-mul-left {k = 2 ^ 80} (high hi (mul-le-mul-right D (r .high))) (lit< tt))
   where
-    low : S * D ≤ 2 ^ 80 * N → (2 ^ 30 * 0 + 64 * m * 2 ^ 80) * D ≤ (2 ^ 30 * S + (64 * 0 + (1 + 129 + 65 + 65)) * 2 ^ 80) * D → 2 ^ 80 * (64 * m * D) ≤ 2 ^ 80 * (2 ^ 30 * N + 260 * D)
+    low : S * D ≤ 2 ^ 80 * N → (2 ^ 30 * 0 + 64 * m * 2 ^ 80) * D ≤ (2 ^ 30 * S + (0 + (1 + 129 + 65 + 65)) * 2 ^ 80) * D → 2 ^ 80 * (64 * m * D) ≤ 2 ^ 80 * (2 ^ 30 * N + 260 * D)
     low h k = omega arith
 
-    high : 2 ^ 80 * N < S * D + D → (2 ^ 30 * S + 64 * 0 * 2 ^ 80) * D ≤ (2 ^ 30 * 0 + (64 * m + (1 + 129 + 65 + 65)) * 2 ^ 80) * D → 2 ^ 80 * (2 ^ 30 * N) ≤ 2 ^ 80 * ((64 * m + 261) * D)
+    high : 2 ^ 80 * N < S * D + D → (2 ^ 30 * S + 0 * 2 ^ 80) * D ≤ (2 ^ 30 * 0 + (64 * m + (1 + 129 + 65 + 65)) * 2 ^ 80) * D → 2 ^ 80 * (2 ^ 30 * N) ≤ 2 ^ 80 * ((64 * m + 261) * D)
     high h k = omega arith
 
 -- n is kept a variable: at a numeral the sums would be computed out
-floor-sum : (n k q m S : ℕ) → 0 < q → S ≡ 2 ^ 80 * eulerSum n k q / eulerDenominator n k q → Result (2 ^ 30) (2 ^ 80) (1 + 129 + 65 + 65) S 0 m 0 → Sum (2 ^ 30) (64 * m) 262 (64 * m + 262) n k q
+floor-sum : (n k q m S : ℕ) → 0 < q → S ≡ 2 ^ 80 * eulerSum n k q / eulerDenominator n k q → At (2 ^ 30) (2 ^ 80) (1 + 129 + 65 + 65) S 0 (64 * m) 0 → Sum (2 ^ 30) (64 * m) 262 (64 * m + 262) n k q
 floor-sum n k q m S pos e r =
     let f = from-floor (eulerSum n k q) (eulerDenominator n k q) S m (den-pos n k q pos) e r in
     record { least = low (64 * m * eulerDenominator n k q) (2 ^ 30 * eulerSum n k q) (eulerDenominator n k q) (f .0); most = high (2 ^ 30 * eulerSum n k q) (eulerDenominator n k q) (f .1) }
@@ -148,5 +130,5 @@ floor-sum n k q m S pos e r =
     high : (N D : ℕ) → N ≤ (64 * m + 261) * D → N ≤ (64 * m + 262) * D
     high N D h = omega arith
 
-pub table-sum : (k : ℕ) → k < 2 ^ 24 → (m : ℕ) → Line (k % 16384) (getD arcs (k / 16384) 0) (getD arcs (suc (k / 16384)) 0) m → Sum (2 ^ 30) (64 * m) 262 (64 * m + 262) 40 k (2 ^ 24)
+pub table-sum : (k : ℕ) → k < 2 ^ 24 → (m : ℕ) → Line 16384 (k % 16384) (getD arcs (k / 16384) 0) 0 (getD arcs (suc (k / 16384)) 0) 0 m 0 → Sum (2 ^ 30) (64 * m) 262 (64 * m + 262) 40 k (2 ^ 24)
 table-sum k h m l = floor-sum 40 k (2 ^ 24) m (sum k) (lit< tt) (sum-is k) (arc-close k h m l)

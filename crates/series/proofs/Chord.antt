@@ -1,14 +1,8 @@
--- A function against its chord, as interpolation in general needs it. P - N is a function on a fine grid and p - n its slope: a step of the function is the slope, give or take e,
--- and the slope changes by at most k from one grid point to the next. Then between two points of the grid the function differs from the straight line by what a second derivative k gives.
+-- A function against its chord, as interpolation in general needs it: between two points of the grid the function differs from the straight line by what a second derivative k gives.
 use Prim.Native.Nat.{ℕ, zero, suc, _+_, _*_, _≤_, _<_}
 use native.Mathlib.Nat.{add-zero, add-suc, mul-le-mul-left}
 use native.Mathlib.Omega.{arith}
-
-pub record Sloped (P N p n : ℕ → ℕ) (e k z : ℕ) : Type 0 where
-  pub up : (x : ℕ) → x < z → P (suc x) + N x + n x ≤ P x + N (suc x) + p x + e
-  pub down : (x : ℕ) → x < z → P x + N (suc x) + p x ≤ P (suc x) + N x + n x + e
-  pub steeper : (x : ℕ) → x < z → p (suc x) + n x ≤ p x + n (suc x) + k
-  pub flatter : (x : ℕ) → x < z → p x + n (suc x) ≤ p (suc x) + n x + k
+use Rattle.series.specs.Interpolation.{Sloped}
 
 module _ (P N p n : ℕ → ℕ) (e k z : ℕ) (s : Sloped P N p n e k z) where
   slope-up : (m j : ℕ) → m + j ≤ z → p (m + j) + n m ≤ p m + n (m + j) + j * k

@@ -6,7 +6,7 @@ use native.Mathlib.Numerals.{add-one}
 use lib.Ieee.Nearest.{div-mono}
 use Rattle.series.specs.Series.{eulerDenominator, eulerSum}
 use Rattle.series.proofs.EulerGrowth.{ev, od}
-use Rattle.series.proofs.Chord.{Sloped}
+use Rattle.series.specs.Interpolation.{Sloped}
 use Rattle.series.proofs.EulerSums.{cauchy, at-most-one, squares-pos, den-pos}
 use Rattle.series.proofs.EulerNearby.{law-up, law-down, tail}
 

@@ -9,7 +9,7 @@ use lib.Dec.{T, leb, leb→le, lit≤, lit<}
 use lib.Ieee.Fits.{and-l, and-r}
 use Rattle.series.proofs.Numbers.{swap-sums}
 use Rattle.series.proofs.Oscillation.{Next, Within, stays}
-use Rattle.series.proofs.Chord.{Sloped}
+use Rattle.series.specs.Interpolation.{Sloped}
 use Rattle.series.proofs.SinePolynomials.{L0, L1, L2, L3, whole, slack, grid, reach, table-step, a, b, c, d, osc}
 
 -- a test at each number below n

@@ -8,7 +8,8 @@ use Rattle.series.specs.Tables.{sines}
 use Rattle.series.specs.Series.{step, denominator, sinTerm, cosTerm, added, taken}
 use Rattle.series.proofs.SinePolynomials.{whole, grid, a, b, c, d}
 use Rattle.series.proofs.SineNodes.{above, below}
-use Rattle.series.proofs.SineTable.{Line, Close, turned, sine-close, cosine-close}
+use Rattle.series.specs.Interpolation.{Line}
+use Rattle.series.proofs.SineTable.{Close, turned, sine-close, cosine-close}
 use Rattle.series.proofs.SineTerms.{same-den, sine-up, sine-down, cosine-up, cosine-down}
 use Rattle.series.proofs.AlternatingSums.{AtLeast, AtMost, Bracketed, bracketed, least-all, most-all, sin-fades, cos-fades, fading, faster}
 
@@ -47,9 +48,9 @@ module _ (y m m' : ℕ) (h : y ≤ 2 ^ 45) where
       (most-all term y grid 33 (λ n l. fade n (fades n (le-trans (lit≤ tt) l))) (2 ^ 24) m' (m + 16) refl (first-high (64 * grid) (added term 32 y grid) (taken term 32 y grid) (denominator 32 grid) whole f g m m' (step 32 grid) (term 32 y grid) u d same-den (c .high) last))
 
   pub sine-within : let q = turned y in let s = q / 65536 in
-      Line (q % 65536) (above sines (s % 4096)) (below sines (s % 4096)) (above sines (suc s % 4096)) (below sines (suc s % 4096)) m m' → Bracketed sinTerm (2 ^ 24) m (m' + 16) m' (m + 16) y grid
+      Line 65536 (q % 65536) (above sines (s % 4096)) (below sines (s % 4096)) (above sines (suc s % 4096)) (below sines (suc s % 4096)) m m' → Bracketed sinTerm (2 ^ 24) m (m' + 16) m' (m + 16) y grid
   sine-within l = ends sinTerm (b y) (d y) (λ n f. sin-fades n y grid (faster n y grid f)) (sine-up y) (sine-down y) (term-small y 65 (grid * 66) (denominator 32 grid * step 32 grid) h sine-last) (sine-close y h m m' l)
 
   pub cosine-within : let q = turned y in let s = q / 65536 in
-      Line (q % 65536) (above sines ((s + 1024) % 4096)) (below sines ((s + 1024) % 4096)) (above sines ((suc s + 1024) % 4096)) (below sines ((suc s + 1024) % 4096)) m m' → Bracketed cosTerm (2 ^ 24) m (m' + 16) m' (m + 16) y grid
+      Line 65536 (q % 65536) (above sines ((s + 1024) % 4096)) (below sines ((s + 1024) % 4096)) (above sines ((suc s + 1024) % 4096)) (below sines ((suc s + 1024) % 4096)) m m' → Bracketed cosTerm (2 ^ 24) m (m' + 16) m' (m + 16) y grid
   cosine-within l = ends cosTerm (a y) (c y) (λ n f. cos-fades n y grid f) (cosine-up y) (cosine-down y) (term-small y 64 (step 32 grid) (denominator 32 grid * step 32 grid) h cosine-last) (cosine-close y h m m' l)

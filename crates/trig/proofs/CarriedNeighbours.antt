@@ -11,7 +11,7 @@ use lib.ListN.{getD}
 use borrow.Author.Tests.{leb-false, lt-leb}
 use Rattle.series.specs.Tables.{sines}
 use Rattle.series.proofs.SineNodes.{above, below}
-use Rattle.series.proofs.SineTable.{Line}
+use Rattle.series.specs.Interpolation.{Line}
 use Rattle.series.proofs.Numbers.{lt-or-le}
 use Rattle.trig.specs.Sine.{carried}
 use Rattle.trig.specs.Parts.{signed}
@@ -106,12 +106,12 @@ not-over t u f m g h = omega arith
 not-under : (t u f m g : ℕ) → 65536 * (64 * m) ≤ g * t + f * u + 65536 * 65 → g * 0 + f * 0 + 65536 * (64 * m) ≤ g * t + f * u + 65536 * (64 * 0) + 65536 * 65
 not-under t u f m g h = omega arith
 
-off-line : (b : Bool) (t u f m : ℕ) → f < 65536 → Off t u f m → Line f (cond b 0 t) (cond b t 0) (cond b 0 u) (cond b u 0) (cond b 0 m) (cond b m 0)
+off-line : (b : Bool) (t u f m : ℕ) → f < 65536 → Off t u f m → Line 65536 f (cond b 0 t) (cond b t 0) (cond b 0 u) (cond b u 0) (cond b 0 m) (cond b m 0)
 off-line false t u f m l h = record { high = not-over t u f m (65536 - f) (h .high); low = not-under t u f m (65536 - f) (h .low) }
 off-line true t u f m l h = record { high = not-under t u f m (65536 - f) (h .low); low = not-over t u f m (65536 - f) (h .high) }
 
 pub line-of : (n f : ℕ) → f < 65536 → let s = sided n in let m = lineSize 65536 (s .t) (s .u) f in
-    Line f (above sines (n % 4096)) (below sines (n % 4096)) (above sines ((n + 1) % 4096)) (below sines ((n + 1) % 4096)) (cond (s .b) 0 m) (cond (s .b) m 0)
+    Line 65536 f (above sines (n % 4096)) (below sines (n % 4096)) (above sines ((n + 1) % 4096)) (below sines ((n + 1) % 4096)) (cond (s .b) 0 m) (cond (s .b) m 0)
 line-of n f l =
     let s = sided n in
     let m = lineSize 65536 (s .t) (s .u) f in
@@ -119,7 +119,7 @@ line-of n f l =
     let n₀ : below sines (n % 4096) ≡ cond (s .b) (s .t) 0 = below-is n ∙ ap minus (s .here) ∙ minus-signed (s .b) (s .t) in
     let p₁ : above sines ((n + 1) % 4096) ≡ cond (s .b) 0 (s .u) = above-is (n + 1) ∙ ap plus (s .next) ∙ plus-signed (s .b) (s .u) in
     let n₁ : below sines ((n + 1) % 4096) ≡ cond (s .b) (s .u) 0 = below-is (n + 1) ∙ ap minus (s .next) ∙ minus-signed (s .b) (s .u) in
-    subst (λ (x : ℕ). Line f x (below sines (n % 4096)) (above sines ((n + 1) % 4096)) (below sines ((n + 1) % 4096)) (cond (s .b) 0 m) (cond (s .b) m 0)) (sym p₀)
-    (subst (λ (x : ℕ). Line f (cond (s .b) 0 (s .t)) x (above sines ((n + 1) % 4096)) (below sines ((n + 1) % 4096)) (cond (s .b) 0 m) (cond (s .b) m 0)) (sym n₀)
-    (subst (λ (x : ℕ). Line f (cond (s .b) 0 (s .t)) (cond (s .b) (s .t) 0) x (below sines ((n + 1) % 4096)) (cond (s .b) 0 m) (cond (s .b) m 0)) (sym p₁)
-    (subst (λ (x : ℕ). Line f (cond (s .b) 0 (s .t)) (cond (s .b) (s .t) 0) (cond (s .b) 0 (s .u)) x (cond (s .b) 0 m) (cond (s .b) m 0)) (sym n₁) (off-line (s .b) (s .t) (s .u) f m l (off (s .t) (s .u) f l)))))
+    subst (λ (x : ℕ). Line 65536 f x (below sines (n % 4096)) (above sines ((n + 1) % 4096)) (below sines ((n + 1) % 4096)) (cond (s .b) 0 m) (cond (s .b) m 0)) (sym p₀)
+    (subst (λ (x : ℕ). Line 65536 f (cond (s .b) 0 (s .t)) x (above sines ((n + 1) % 4096)) (below sines ((n + 1) % 4096)) (cond (s .b) 0 m) (cond (s .b) m 0)) (sym n₀)
+    (subst (λ (x : ℕ). Line 65536 f (cond (s .b) 0 (s .t)) (cond (s .b) (s .t) 0) x (below sines ((n + 1) % 4096)) (cond (s .b) 0 m) (cond (s .b) m 0)) (sym p₁)
+    (subst (λ (x : ℕ). Line 65536 f (cond (s .b) 0 (s .t)) (cond (s .b) (s .t) 0) (cond (s .b) 0 (s .u)) x (cond (s .b) 0 m) (cond (s .b) m 0)) (sym n₁) (off-line (s .b) (s .t) (s .u) f m l (off (s .t) (s .u) f l)))))

@@ -12,7 +12,8 @@ use lib.Ieee.{Float, nan, inf, fin, up, down}
 use lib.Ieee.Exact.{HasValue}
 use borrow.Author.Tests.{ltb-true, ltb-false}
 use Rattle.series.specs.Tables.{arcs}
-use Rattle.series.proofs.ArctangentTable.{Line, table-sum}
+use Rattle.series.specs.Interpolation.{Line}
+use Rattle.series.proofs.ArctangentTable.{table-sum}
 use Rattle.series.proofs.EulerSums.{Sum, sum-relax, sum-same, same-sum}
 use Rattle.series.proofs.EulerNearby.{move-up, past-40}
 use Rattle.trig.specs.Interpolation.{overUnit, interpolated, towardZero}
@@ -22,16 +23,16 @@ use Rattle.trig.proofs.CarriedTable.{arc-small}
 use Rattle.trig.proofs.WholeOverUnit.{over-value}
 use Rattle.trig.proofs.SmallArctangent.{Arctan}
 
-arc-line : (t u f : ℕ) → f < 16384 → Line f t u (lineSize 16384 t u f)
-arc-line t u f h = subst (λ (m : ℕ). Line f t u m) (sym (finer t u f)) (go (lineSize 65536 t u (f * 4)) (off t u (f * 4) (omega arith)))
+arc-line : (t u f : ℕ) → f < 16384 → Line 16384 f t 0 u 0 (lineSize 16384 t u f) 0
+arc-line t u f h = subst (λ (m : ℕ). Line 16384 f t 0 u 0 m 0) (sym (finer t u f)) (go (lineSize 65536 t u (f * 4)) (off t u (f * 4) (omega arith)))
   where
-    go : (m : ℕ) → Off t u (f * 4) m → Line f t u m
+    go : (m : ℕ) → Off t u (f * 4) m → Line 16384 f t 0 u 0 m 0
     go m o = record { high = high (16384 - f) (65536 - f * 4) (omega arith) (o .high); low = low (16384 - f) (65536 - f * 4) (omega arith) (o .low) }
       where
-        high : (g g' : ℕ) → g' ≡ 4 * g → g' * t + f * 4 * u ≤ 65536 * (64 * m) + 65536 * 65 → g * t + f * u ≤ 16384 * (64 * m) + 16384 * 65
+        high : (g g' : ℕ) → g' ≡ 4 * g → g' * t + f * 4 * u ≤ 65536 * (64 * m) + 65536 * 65 → g * t + f * u + 16384 * (64 * 0) ≤ g * 0 + f * 0 + 16384 * (64 * m) + 16384 * 65
         high g g' e h = omega (arith, ap (λ (z : ℕ). z * t) e)
 
-        low : (g g' : ℕ) → g' ≡ 4 * g → 65536 * (64 * m) ≤ g' * t + f * 4 * u + 65536 * 65 → 16384 * (64 * m) ≤ g * t + f * u + 16384 * 65
+        low : (g g' : ℕ) → g' ≡ 4 * g → 65536 * (64 * m) ≤ g' * t + f * 4 * u + 65536 * 65 → g * 0 + f * 0 + 16384 * (64 * m) ≤ g * t + f * u + 16384 * (64 * 0) + 16384 * 65
         low g g' e h = omega (arith, ap (λ (z : ℕ). z * t) e)
 
 -- m / 2^24 as a number of 2^-149
@@ -115,7 +116,7 @@ table-arctan p q qp h = go (ltb (p * 2 ^ 24 / q) (2 ^ 24)) refl
         let u = getD arcs (i + 1) 0 in
         let m = lineSize 16384 t u f in
         let l : m ≤ 2 ^ 24 = subst (λ (z : ℕ). z ≤ 2 ^ 24) (sym (finer t u f)) (line-small t u (f * 4) (arc-small i (omega arith)) (arc-small (i + 1) (omega arith)) (omega arith)) in
-        let s = table-sum k k< m (subst (λ (z : ℕ). Line f t (getD arcs z 0) m) (add-one i) (arc-line t u f f<)) in
+        let s = table-sum k k< m (subst (λ (z : ℕ). Line 16384 f t 0 (getD arcs z 0) 0 m 0) (add-one i) (arc-line t u f f<)) in
         subst (λ (z : ℤ). Arctan (overUnit z) p q (327 * 2 ^ 119)) (sym (line-size 16384 t u f (lit< tt) (le-of-lt f<)))
         (made m l (to-quotient (m * 2 ^ 125) (0 + 262 * 2 ^ 119) (m * 2 ^ 125 + 262 * 2 ^ 119) p q k (p * 2 ^ 24 % q) qp h (div-add-mod' (p * 2 ^ 24) q) (mod-lt (p * 2 ^ 24) qp) (in-units m k (2 ^ 24) s)))
     go false e =

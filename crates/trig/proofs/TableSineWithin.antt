@@ -16,7 +16,8 @@ use Rattle.series.specs.Tables.{sines}
 use Rattle.series.specs.Series.{sinTerm, cosTerm}
 use Rattle.series.proofs.SinePolynomials.{grid}
 use Rattle.series.proofs.SineNodes.{above, below}
-use Rattle.series.proofs.SineTable.{Line, turned}
+use Rattle.series.specs.Interpolation.{Line}
+use Rattle.series.proofs.SineTable.{turned}
 use Rattle.series.proofs.SineTableBrackets.{sine-within, cosine-within}
 use Rattle.series.proofs.AlternatingSums.{Bracketed, bracketed-same, sin-scales, cos-scales}
 use Rattle.trig.specs.Interpolation.{overUnit}
@@ -99,15 +100,15 @@ module _ (m : ℕ) (e : ℤ) (f : T (fits binary32 (fin false m e))) (h : T (le 
   unfolding size-at
   small-at n = line-small (sided n .t) (sided n .u) (turn % 65536) (sided n .low) (sided n .low') (mod-lt turn (lit< tt))
 
-  line-at : (n i j : ℕ) → n % 4096 ≡ i → (n + 1) % 4096 ≡ j → Line (turn % 65536) (above sines i) (below sines i) (above sines j) (below sines j) (cond (sided n .b) 0 (size-at n)) (cond (sided n .b) (size-at n) 0)
+  line-at : (n i j : ℕ) → n % 4096 ≡ i → (n + 1) % 4096 ≡ j → Line 65536 (turn % 65536) (above sines i) (below sines i) (above sines j) (below sines j) (cond (sided n .b) 0 (size-at n)) (cond (sided n .b) (size-at n) 0)
   unfolding size-at
   line-at n i j a b =
-      subst (λ (x : ℕ). Line (turn % 65536) (above sines x) (below sines x) (above sines j) (below sines j) (cond (sided n .b) 0 (size-at n)) (cond (sided n .b) (size-at n) 0)) a
-      (subst (λ (x : ℕ). Line (turn % 65536) (above sines (n % 4096)) (below sines (n % 4096)) (above sines x) (below sines x) (cond (sided n .b) 0 (size-at n)) (cond (sided n .b) (size-at n) 0)) b (line-of n (turn % 65536) (mod-lt turn (lit< tt))))
+      subst (λ (x : ℕ). Line 65536 (turn % 65536) (above sines x) (below sines x) (above sines j) (below sines j) (cond (sided n .b) 0 (size-at n)) (cond (sided n .b) (size-at n) 0)) a
+      (subst (λ (x : ℕ). Line 65536 (turn % 65536) (above sines (n % 4096)) (below sines (n % 4096)) (above sines x) (below sines x) (cond (sided n .b) 0 (size-at n)) (cond (sided n .b) (size-at n) 0)) b (line-of n (turn % 65536) (mod-lt turn (lit< tt))))
 
   -- from step n on, at the table's entries i and j for the turn
   near-at : (term : ℕ → ℕ → ℕ → ℕ) → ((C n p q : ℕ) → term n (C * p) (C * q) ≡ (C * C) ^ n * (C * C) * term n p q) → (n : ℕ) (i j : ℕ → ℕ)
-      → ((P M : ℕ) → (let q = turned y in Line (q % 65536) (above sines (i q)) (below sines (i q)) (above sines (j q)) (below sines (j q)) P M) → Bracketed term (2 ^ 24) P (M + 16) M (P + 16) y grid)
+      → ((P M : ℕ) → (let q = turned y in Line 65536 (q % 65536) (above sines (i q)) (below sines (i q)) (above sines (j q)) (below sines (j q)) P M) → Bracketed term (2 ^ 24) P (M + 16) M (P + 16) y grid)
       → n % 4096 ≡ i turn → (n + 1) % 4096 ≡ j turn → SumsWithin term (m * up e) (down e) (tableSine n (fractionOf turn))
   unfolding size-at
   near-at term scales n i j within a b =
@@ -115,7 +116,7 @@ module _ (m : ℕ) (e : ℤ) (f : T (fits binary32 (fin false m e))) (h : T (le 
       let M = cond (sided n .b) (size-at n) 0 in
       subst (λ (r : Float). SumsWithin term (m * up e) (down e) r) (sym (wave-size n turn))
       (whole-within term scales (g .C) (m * up e) (down e) (g .positive) (g .is) (sided n .b) (size-at n) (small-at n)
-      (within P M (subst (λ (q : ℕ). Line (q % 65536) (above sines (i q)) (below sines (i q)) (above sines (j q)) (below sines (j q)) P M) (sym same-turn) (line-at n (i turn) (j turn) a b))))
+      (within P M (subst (λ (q : ℕ). Line 65536 (q % 65536) (above sines (i q)) (below sines (i q)) (above sines (j q)) (below sines (j q)) P M) (sym same-turn) (line-at n (i turn) (j turn) a b))))
 
   pub sine-near : SumsWithin sinTerm (m * up e) (down e) (tableSine (stepOf turn) (fractionOf turn))
   sine-near = near-at sinTerm sin-scales (stepOf turn) (λ q. q / 65536 % 4096) (λ q. suc (q / 65536) % 4096) (λ P M. sine-within y P M y-fits) (omega arith) (omega arith)
