@@ -1,4 +1,4 @@
--- Limits of a distance and of an angle: Müller 2020, equation (25) and the algorithm for limited joint angles. Definitions only.
+-- Limits of a distance and of an angle: Müller 2020, equation (25) and the algorithm for limited joint angles; the bound of 2^-23 and the longest correction are the Rust's. Definitions only.
 use mathlib.Core.Bool.{_||_}
 use lib.Ieee.{Float, lt, le}
 use Rattle.scalar.specs.Arith.{if_then_else_, _⊖_, f0, epsilon, pi, tau}

@@ -1,4 +1,4 @@
--- An angular correction: Müller 2020, equations (11) to (16). Definitions only.
+-- An angular correction: Müller 2020, equations (11) to (16), with the Rust's sign of the impulse, whole turn and bound of 2^-23. Definitions only.
 use lib.Ieee.{Float, neg, le}
 use Rattle.scalar.specs.Arith.{if_then_else_, f0, epsilon}
 use Rattle.vector.specs.Vector.{origin, negOf, scaleOf, divOf, dotOf, lengthOf}

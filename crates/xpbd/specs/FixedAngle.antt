@@ -1,4 +1,4 @@
--- A fixed angle: Müller 2020's correction of a fixed joint's orientations, with a sign of the Rust's own. Definitions only.
+-- A fixed angle: Müller 2020's correction of a fixed joint's orientations, with a sign and an order of factors of the Rust's own. What is prepared, and the total, are its form. Definitions only.
 use lib.Ieee.{Float, neg}
 use Rattle.scalar.specs.Arith.{f2}
 use Rattle.vector.specs.Vector.{origin, addOf, scaleOf}

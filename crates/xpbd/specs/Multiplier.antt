@@ -1,4 +1,4 @@
--- The update of a constraint's multiplier: Macklin 2016; Müller 2020, equation (4). Definitions only.
+-- The update of a constraint's multiplier: Macklin 2016; Müller 2020, equation (4); its guard is the Rust's. Definitions only.
 use lib.Ieee.{Float, neg, le}
 use Rattle.scalar.specs.Arith.{if_then_else_, _⊕_, _⊖_, _⊗_, _⊘_, f0, epsilon}
 

@@ -1,4 +1,4 @@
--- A point constraint: two anchors are brought together by a positional correction along the line between them (Müller 2020, equations (2) to (9)). Definitions only.
+-- A point constraint: two anchors are brought together by a positional correction along the line between them (Müller 2020, equations (2) to (9)). What is prepared, and the total, are the Rust's form. Definitions only.
 use lib.Ieee.{Float, eq}
 use Rattle.scalar.specs.Arith.{if_then_else_, f0}
 use Rattle.vector.specs.Vector.{origin, addOf, negOf, divOf, lengthSquaredOf, lengthOf}

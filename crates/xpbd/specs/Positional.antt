@@ -1,4 +1,4 @@
--- A positional correction: Müller 2020, equations (2) to (9). Definitions only.
+-- A positional correction: Müller 2020, equations (2) to (9), with the Rust's mass for each axis and whole turn. What is prepared of the anchors, and their separation from it, are the Rust's form. Definitions only.
 use lib.Ieee.{Float}
 use Rattle.scalar.specs.Arith.{_⊕_, f0}
 use Rattle.vector.specs.Vector.{addOf, subOf, negOf, scaleOf, timesOf, dotOf, crossOf, maxElement}
