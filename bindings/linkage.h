@@ -3,7 +3,7 @@
  * Card and state. A card is any bytes. A state has LINKAGE_BODY_NUMBERS floats for each of the card's bodies (position, rotation x y z w, linear and angular
  * velocity) and then LINKAGE_JOINT_NUMBERS for each of its joints; linkage_sizes says how many that is for a card, and another length is refused by 11.
  *
- * Answers. Each call takes any bytes and any floats, ends, and answers 0 or the number of document 01's refusal, and then the state is as it was. A count that a
+ * Answers. Each call takes any bytes and any floats, ends, and answers 0 or the number of a refusal (docs/CARD.md), and then the state is as it was. A count that a
  * pointer leads to is written by every call that takes it, refused or not, and is not read; that pointer must not be null. errno may change.
  *
  * Null. The pointer of a card of 0 bytes or a state of 0 floats is not followed and may be null: the answers are 1 and, after the card's refusals, 11.
