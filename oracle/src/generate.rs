@@ -108,6 +108,13 @@ impl Random {
         size * self.sign()
     }
 
+    /// A NaN of any pattern, quiet or signalling.
+    pub fn nan(&mut self) -> f32 {
+        let payload = 1 + self.below((1 << 23) - 1) as u32;
+        let sign = self.pick(&[0, 1 << 31]);
+        f32::from_bits(sign | f32::INFINITY.to_bits() | payload)
+    }
+
     /// A wild number that is finite.
     pub fn wild_finite(&mut self) -> f32 {
         loop {
@@ -341,7 +348,7 @@ pub fn rotation_about(axis: [f32; 3], angle: f32) -> [f32; 4] {
     [x, y, z, cos as f32]
 }
 
-fn product(a: [f32; 4], b: [f32; 4]) -> [f32; 4] {
+pub(crate) fn product(a: [f32; 4], b: [f32; 4]) -> [f32; 4] {
     let [ax, ay, az, aw] = a.map(f64::from);
     let [bx, by, bz, bw] = b.map(f64::from);
     [
@@ -787,7 +794,7 @@ fn pose_body(pose: &Pose) -> Body {
     }
 }
 
-fn header(random: &mut Random) -> Card {
+pub(crate) fn header(random: &mut Random) -> Card {
     Card {
         edition: 1,
         rate: random.rate(),
@@ -805,7 +812,13 @@ fn anchor(body: &Body, point: [f32; 3]) -> [f32; 3] {
 }
 
 /// A joint of a kind that holds two bodies as they stand.
-fn holding(random: &mut Random, bodies: &[Body], kind: u32, body1: usize, body2: usize) -> Joint {
+pub(crate) fn holding(
+    random: &mut Random,
+    bodies: &[Body],
+    kind: u32,
+    body1: usize,
+    body2: usize,
+) -> Joint {
     let (first, second) = (&bodies[body1], &bodies[body2]);
     let mut joint = Joint::plain(kind, body1 as u32, body2 as u32);
     dress(random, &mut joint);
@@ -862,6 +875,47 @@ fn holding(random: &mut Random, bodies: &[Body], kind: u32, body1: usize, body2:
     joint
 }
 
+/// A body of a linkage that is built to run.
+pub(crate) fn link(random: &mut Random, position: [f32; 3]) -> Body {
+    let inverse_mass = random.between(0.2, 4.0);
+    let mut body = Body {
+        position,
+        inv_mass: inverse_mass,
+        inv_inertia: {
+            let i = inverse_mass * random.between(2.0, 8.0);
+            [i, 0.0, 0.0, i, 0.0, i]
+        },
+        ..Body::UNIT
+    };
+    if random.one_in(3) {
+        body.rotation = random.rotation();
+    }
+    if random.one_in(4) {
+        body.center_of_mass = random.small3(0.2);
+    }
+    if random.one_in(3) {
+        body.linear_velocity = random.small3(0.5);
+        body.angular_velocity = random.small3(0.5);
+    }
+    if random.one_in(12) {
+        body.locks = random.locks();
+    }
+    if random.one_in(10) {
+        body.dominance = random.dominance();
+    }
+    body
+}
+
+/// The body anchored where it stands.
+pub(crate) fn anchored(body: &Body) -> Body {
+    Body {
+        position: body.position,
+        rotation: body.rotation,
+        center_of_mass: body.center_of_mass,
+        ..Body::ANCHORED
+    }
+}
+
 /// A linkage that is built to run: a chain or a closed loop of bodies a step apart, the first of them anchored or none.
 pub fn linkage(random: &mut Random) -> Card {
     let mut card = header(random);
@@ -886,47 +940,15 @@ pub fn linkage(random: &mut Random) -> Card {
             }
             false => straight.map(|x| x * i as f32),
         };
-        let inverse_mass = random.between(0.2, 4.0);
-        let mut body = Body {
-            position,
-            inv_mass: inverse_mass,
-            inv_inertia: {
-                let i = inverse_mass * random.between(2.0, 8.0);
-                [i, 0.0, 0.0, i, 0.0, i]
-            },
-            ..Body::UNIT
-        };
-        if random.one_in(3) {
-            body.rotation = random.rotation();
-        }
-        if random.one_in(4) {
-            body.center_of_mass = random.small3(0.2);
-        }
-        if random.one_in(3) {
-            body.linear_velocity = random.small3(0.5);
-            body.angular_velocity = random.small3(0.5);
-        }
-        if random.one_in(12) {
-            body.locks = random.locks();
-        }
-        if random.one_in(10) {
-            body.dominance = random.dominance();
-        }
-        card.bodies.push(body);
+        card.bodies.push(link(random, position));
     }
-    let anchored = match random.below(4) {
+    let fixed = match random.below(4) {
         0 => None,
         1 => Some(random.below(count)),
         _ => Some(0),
     };
-    if let Some(i) = anchored {
-        let body = &mut card.bodies[i];
-        *body = Body {
-            position: body.position,
-            rotation: body.rotation,
-            center_of_mass: body.center_of_mass,
-            ..Body::ANCHORED
-        };
+    if let Some(i) = fixed {
+        card.bodies[i] = anchored(&card.bodies[i]);
     }
     for i in 0..if closed { count } else { count - 1 } {
         let (body1, body2) = match random.one_in(2) {
@@ -975,13 +997,7 @@ pub fn pair(random: &mut Random) -> Card {
             body.angular_velocity = motion.angular_velocity;
         }
         if let Some(i) = [None, Some(0), Some(1)][case.anchored as usize % 3] {
-            let body: &mut Body = &mut card.bodies[i];
-            *body = Body {
-                position: body.position,
-                rotation: body.rotation,
-                center_of_mass: body.center_of_mass,
-                ..Body::ANCHORED
-            };
+            card.bodies[i] = anchored(&card.bodies[i]);
         }
         if card::check(&card.encode()).is_ok() {
             return card;
@@ -1413,8 +1429,9 @@ pub fn state(random: &mut Random, card: &Card) -> Vec<f32> {
         2 | 3 => {
             for _ in 0..=random.below(3) {
                 let at = random.below(state.len());
-                state[at] = match random.below(3) {
-                    0 => random.pick(&[
+                state[at] = match random.below(4) {
+                    0 => random.nan(),
+                    1 => random.pick(&[
                         f32::NAN,
                         f32::INFINITY,
                         f32::NEG_INFINITY,

@@ -2,6 +2,7 @@
 
 pub mod card;
 pub mod compare;
+pub mod families;
 pub mod generate;
 #[cfg(feature = "host")]
 pub mod host;

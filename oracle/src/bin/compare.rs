@@ -1,8 +1,9 @@
-//! Compares the Rattle with the oracle: `compare [--seed S] [--count N] [leaves] [joints] [cards] [runs] [states] [every]`.
+//! Compares the Rattle with the oracle: `compare [--seed S]... [--count N] [leaves] [joints] [cards] [runs] [states] [families] [lists] [every]`.
 //!
 //! Without a word it compares all but `every`, which goes through all 2^32 inputs of root, sine, cosine and arc sine, and every slope of the
-//! arctangent. The count is of inputs to each leaf, of joints, of damaged cards, of runs and of states. At a difference it writes the smallest input
-//! that it finds to target/differences; it fails at a difference, and where a class of inputs that it looks for never came up.
+//! arctangent. The count is of inputs to each leaf, of joints, of damaged cards, of runs, of states, of the families' cards and of lists of calls, for
+//! each seed. At a difference it writes the smallest input that it finds to target/differences; it fails at a difference, and where a class of inputs
+//! that it looks for never came up with any seed. It first says the sum of the archive that it is linked with.
 
 use oracle::compare::leaves::{any_joint, every, leaves, Leaf};
 use oracle::compare::{Difference, Hits};
@@ -11,24 +12,26 @@ use std::path::Path;
 use std::process::ExitCode;
 use std::time::Instant;
 
-const USUAL: &[&str] = &["leaves", "joints", "cards", "runs", "states"];
+const USUAL: &[&str] = &[
+    "leaves", "joints", "cards", "runs", "states", "families", "lists",
+];
 
 struct Options {
-    seed: u64,
+    seeds: Vec<u64>,
     count: u64,
     what: Vec<String>,
 }
 
 fn options() -> Option<Options> {
     let mut options = Options {
-        seed: 1,
+        seeds: Vec::new(),
         count: 20000,
         what: Vec::new(),
     };
     let mut words = std::env::args().skip(1);
     while let Some(word) = words.next() {
         match word.as_str() {
-            "--seed" => options.seed = words.next()?.parse().ok()?,
+            "--seed" => options.seeds.push(words.next()?.parse().ok()?),
             "--count" => options.count = words.next()?.parse().ok()?,
             "every" => options.what.push(word),
             what if USUAL.contains(&what) => options.what.push(word),
@@ -38,15 +41,18 @@ fn options() -> Option<Options> {
     if options.what.is_empty() {
         options.what = USUAL.iter().map(|what| what.to_string()).collect();
     }
-    Some(options)
+    if options.seeds.is_empty() {
+        options.seeds.push(1);
+    }
+    (options.count > 0).then_some(options)
 }
 
 type Compared = Result<(), Box<Difference>>;
 
-fn compare_leaves(list: &[Leaf], options: &Options, hits: &mut Hits) -> Compared {
+fn compare_leaves(list: &[Leaf], seed: u64, count: u64, hits: &mut Hits) -> Compared {
     for leaf in list {
         let begun = Instant::now();
-        let compared = leaf.compare(host::answer, options.seed, options.count, hits)?;
+        let compared = leaf.compare(host::answer, seed, count, hits)?;
         hits.count(format!("inputs of {}", leaf.name), compared);
         let seconds = begun.elapsed().as_secs_f32();
         println!("{}: {compared} inputs equal ({seconds:.1} s)", leaf.name);
@@ -54,18 +60,25 @@ fn compare_leaves(list: &[Leaf], options: &Options, hits: &mut Hits) -> Compared
     Ok(())
 }
 
-fn compare_tables(what: &str, options: &Options, hits: &mut Hits) -> Compared {
+fn compare_tables(what: &str, seed: u64, count: u64, hits: &mut Hits) -> Compared {
     let tables = oracle::compare::tables::Tables {
         oracle: oracle::compare::ORACLE,
         rattle: host::table(),
     };
     let begun = Instant::now();
-    let (seed, count) = (options.seed, options.count);
     let (compared, of) = match what {
         "cards" => (tables.cards(seed, count, hits)?, "cards".to_string()),
         "runs" => (
             tables.runs(seed, count, hits)?,
             format!("ticks of {count} runs"),
+        ),
+        "families" => (
+            tables.families(seed, count, hits)?,
+            format!("ticks of {count} cards"),
+        ),
+        "lists" => (
+            tables.lists(seed, count, hits)?,
+            format!("steps of {count} lists"),
         ),
         _ => (tables.states(seed, count, hits)?, "states".to_string()),
     };
@@ -75,24 +88,32 @@ fn compare_tables(what: &str, options: &Options, hits: &mut Hits) -> Compared {
     Ok(())
 }
 
-fn compare(what: &str, options: &Options, hits: &mut Hits) -> Compared {
-    match what {
-        "leaves" => compare_leaves(&leaves(), options, hits),
-        "joints" => compare_leaves(&any_joint(), options, hits),
-        "every" => {
-            for scan in every() {
-                let begun = Instant::now();
-                let compared = scan.compare(host::answer)?;
-                let seconds = begun.elapsed().as_secs_f32();
-                println!(
-                    "{}: all {compared} inputs equal ({seconds:.1} s)",
-                    scan.name
-                );
-            }
-            Ok(())
-        }
-        _ => compare_tables(what, options, hits),
+fn compare_every() -> Compared {
+    for scan in every() {
+        let begun = Instant::now();
+        let compared = scan.compare(host::answer)?;
+        let seconds = begun.elapsed().as_secs_f32();
+        println!(
+            "{}: all {compared} inputs equal ({seconds:.1} s)",
+            scan.name
+        );
     }
+    Ok(())
+}
+
+fn compare(what: &str, options: &Options, hits: &mut Hits) -> Compared {
+    if what == "every" {
+        return compare_every();
+    }
+    for &seed in &options.seeds {
+        println!("{what}: seed {seed}");
+        match what {
+            "leaves" => compare_leaves(&leaves(), seed, options.count, hits)?,
+            "joints" => compare_leaves(&any_joint(), seed, options.count, hits)?,
+            _ => compare_tables(what, seed, options.count, hits)?,
+        }
+    }
+    Ok(())
 }
 
 fn report(difference: &Difference) {
@@ -109,10 +130,11 @@ fn report(difference: &Difference) {
 fn main() -> ExitCode {
     let Some(options) = options() else {
         let words = USUAL.join("] [");
-        eprintln!("usage: compare [--seed S] [--count N] [{words}] [every]");
+        eprintln!("usage: compare [--seed S]... [--count N] [{words}] [every], N over 0");
         return ExitCode::from(2);
     };
-    println!("seed {}, count {}", options.seed, options.count);
+    println!("libhost.a {}", env!("LIBHOST_SHA256"));
+    println!("seeds {:?}, count {}", options.seeds, options.count);
     let mut equal = true;
     for what in &options.what {
         let mut hits = Hits::default();

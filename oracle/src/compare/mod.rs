@@ -1,6 +1,8 @@
 //! The Rattle against the oracle: every number and refusal, bit for bit. Any NaN equals any NaN.
 
+pub mod families;
 pub mod leaves;
+pub mod lists;
 pub mod shrink;
 pub mod tables;
 

@@ -53,7 +53,7 @@ pub fn numbers(mut input: Vec<f32>, differs: impl Fn(&[f32]) -> bool) -> Vec<f32
 }
 
 /// A card's floats, for edits of one at a time.
-fn floats(card: &mut Card) -> Vec<&mut f32> {
+pub(crate) fn floats(card: &mut Card) -> Vec<&mut f32> {
     let mut floats = vec![&mut card.gravity, &mut card.warm_coefficient];
     for body in &mut card.bodies {
         floats.extend(&mut body.position);

@@ -3,7 +3,7 @@
 use super::{in_hex, number_bytes, shrink, Difference, Hits, Table};
 use crate::card::{self, Card, BODY_NUMBERS, JOINT_NUMBERS, KINDS};
 use crate::generate::{self, Random};
-use crate::table;
+use crate::table::{self, Ran};
 
 /// The longest that random bytes get: a little over the largest card.
 const LONGEST: usize = 7000;
@@ -12,7 +12,7 @@ const LONGEST: usize = 7000;
 const MARK: f32 = -12345.678;
 
 #[derive(Clone, Copy, Debug)]
-enum Call {
+pub(super) enum Call {
     Check,
     Sizes,
     Start,
@@ -21,28 +21,28 @@ enum Call {
 }
 
 /// The number that a call answers, the counts that it writes, and the state after it.
-struct Answer {
-    number: u32,
-    counts: Vec<u32>,
-    state: Vec<f32>,
+pub(super) struct Answer {
+    pub(super) number: u32,
+    pub(super) counts: Vec<u32>,
+    pub(super) state: Vec<f32>,
 }
 
 impl Answer {
     /// Bit for bit: a state that is left as it was may have any NaN.
-    fn same(&self, other: &Answer) -> bool {
+    pub(super) fn same(&self, other: &Answer) -> bool {
         let bits = |answer: &Answer| number_bytes(&answer.state);
         self.number == other.number && self.counts == other.counts && bits(self) == bits(other)
     }
 
     /// The number and the counts.
-    fn words(&self) -> String {
+    pub(super) fn words(&self) -> String {
         let counts = self.counts.iter().map(|count| format!(" {count}"));
         format!("{}{}", self.number, counts.collect::<String>())
     }
 }
 
-fn answer(table: &Table, call: Call, card: &[u8], state: &[f32]) -> Answer {
-    let mut state = state.to_vec();
+/// The answer of a call on a state, which it may write.
+pub(super) fn answer(table: &Table, call: Call, card: &[u8], state: &mut [f32]) -> Answer {
     let (number, counts) = match call {
         Call::Check => ((table.check)(card), vec![]),
         Call::Sizes => {
@@ -50,17 +50,17 @@ fn answer(table: &Table, call: Call, card: &[u8], state: &[f32]) -> Answer {
             let counts = vec![sizes.bodies, sizes.joints, sizes.numbers];
             (sizes.number, counts)
         }
-        Call::Start => ((table.start)(card, &mut state), vec![]),
-        Call::Tick => ((table.tick)(card, &mut state), vec![]),
+        Call::Start => ((table.start)(card, state), vec![]),
+        Call::Tick => ((table.tick)(card, state), vec![]),
         Call::Run(ticks) => {
-            let ran = (table.run)(card, &mut state, ticks);
+            let ran = (table.run)(card, state, ticks);
             (ran.number, vec![ran.done])
         }
     };
     Answer {
         number,
         counts,
-        state,
+        state: state.to_vec(),
     }
 }
 
@@ -71,16 +71,21 @@ pub struct Tables {
 
 impl Tables {
     fn answers(&self, call: Call, card: &[u8], state: &[f32]) -> [Answer; 2] {
-        [&self.oracle, &self.rattle].map(|table| answer(table, call, card, state))
+        [&self.oracle, &self.rattle].map(|table| answer(table, call, card, &mut state.to_vec()))
     }
 
-    fn differs(&self, call: Call, card: &[u8], state: &[f32]) -> bool {
+    pub(super) fn differs(&self, call: Call, card: &[u8], state: &[f32]) -> bool {
         let [oracle, rattle] = self.answers(call, card, state);
         !oracle.same(&rattle)
     }
 
     /// The oracle's answer, or the difference.
-    fn both(&self, call: Call, card: &[u8], state: &[f32]) -> Result<Answer, Box<Difference>> {
+    pub(super) fn both(
+        &self,
+        call: Call,
+        card: &[u8],
+        state: &[f32],
+    ) -> Result<Answer, Box<Difference>> {
         let [oracle, rattle] = self.answers(call, card, state);
         match oracle.same(&rattle) {
             true => Ok(oracle),
@@ -88,7 +93,7 @@ impl Tables {
         }
     }
 
-    fn difference(&self, call: Call, bytes: &[u8], state: &[f32]) -> Difference {
+    pub(super) fn difference(&self, call: Call, bytes: &[u8], state: &[f32]) -> Difference {
         let (call, bytes, state) = self.smallest(call, bytes.to_vec(), state.to_vec());
         let [oracle, rattle] = self.answers(call, &bytes, &state);
         let card = match card::check(&bytes) {
@@ -231,7 +236,12 @@ impl Tables {
     // ------------------------------------------------------------------------------------------------------------------------------- runs
 
     /// Ticks from the start state one by one, and the same ticks by one run.
-    fn run(&self, card: &Card, ticks: u32, hits: &mut Hits) -> Result<u64, Box<Difference>> {
+    pub(super) fn run(
+        &self,
+        card: &Card,
+        ticks: u32,
+        hits: &mut Hits,
+    ) -> Result<Ran, Box<Difference>> {
         let bytes = card.encode();
         let sizes = self.both(Call::Sizes, &bytes, &[])?;
         assert_eq!(sizes.number, 0, "a run begins with a card that is accepted");
@@ -248,13 +258,6 @@ impl Tables {
                 note_state(card, &state, hits);
             }
         }
-        let closed = card.joints.len() >= card.bodies.len() && card.bodies.len() > 2;
-        hits.look("run of 300 ticks", done >= 300);
-        hits.look("run of 300 ticks of a closed loop", done >= 300 && closed);
-        hits.look(
-            "run of 300 ticks of 32 bodies",
-            done >= 300 && card.bodies.len() == 32,
-        );
         hits.look("run refused in its first tick", number == 13 && done == 0);
         hits.look("run refused in a later tick", number == 13 && done > 0);
         let run = self.both(Call::Run(ticks), &bytes, &start)?;
@@ -272,7 +275,7 @@ impl Tables {
             self.both(Call::Run(done), &bytes, &start)?;
             self.both(Call::Run(done + 1), &bytes, &start)?;
         }
-        Ok(done.into())
+        Ok(Ran { number, done })
     }
 
     /// Linkages over hundreds of ticks, and other cards over some.
@@ -280,12 +283,19 @@ impl Tables {
         let mut ticks = 0;
         for case in 0..count {
             let random = &mut Random::of_case(seed, case);
-            ticks += match random.below(20) {
-                0 => self.run(&generate::linkage(random), 300, hits)?,
-                1 => self.run(&generate::coincident(random), 20, hits)?,
-                2 | 3 => self.run(&generate::any_card(random), 5, hits)?,
-                _ => self.run(&generate::pair(random), 20, hits)?,
+            let (card, most) = match random.below(20) {
+                0 => (generate::linkage(random), 300),
+                1 => (generate::coincident(random), 20),
+                2 | 3 => (generate::any_card(random), 5),
+                _ => (generate::pair(random), 20),
             };
+            let done = self.run(&card, most, hits)?.done;
+            let bodies = card.bodies.len();
+            let closed = card.joints.len() >= bodies && bodies > 2;
+            hits.look("run of 300 ticks", done >= 300);
+            hits.look("run of 300 ticks of a closed loop", done >= 300 && closed);
+            hits.look("run of 300 ticks of 32 bodies", done >= 300 && bodies == 32);
+            ticks += u64::from(done);
         }
         Ok(ticks)
     }
@@ -293,7 +303,7 @@ impl Tables {
     // ----------------------------------------------------------------------------------------------------------------------------- states
 
     /// A tick from a state that no run may have left. Answers its number.
-    fn tick(
+    pub(super) fn tick(
         &self,
         card: &Card,
         bytes: &[u8],
@@ -305,7 +315,6 @@ impl Tables {
         for refusal in [0, 11, 12, 13] {
             hits.look(format!("state: tick answers {refusal}"), refusal == number);
         }
-        hits.look("state: a card is refused", (1..=10).contains(&number));
         hits.look(
             "state with subnormals is accepted",
             number == 0 && state.iter().any(|x| x.is_subnormal()),
@@ -314,6 +323,9 @@ impl Tables {
             "state with numbers over 4,096 is accepted",
             number == 0 && state.iter().any(|x| x.abs() > 4096.0),
         );
+        let kept = |pattern: fn(&f32) -> bool| number == 12 && tick.state.iter().any(pattern);
+        hits.look("state with another quiet NaN is refused", kept(other_quiet));
+        hits.look("state with a signalling NaN is refused", kept(signalling));
         if number == 0 {
             note_state(card, &tick.state, hits);
         }
@@ -332,6 +344,7 @@ impl Tables {
                 generate::damage(random, &mut bytes, number);
             }
             let tick = self.tick(&card, &bytes, &state, hits)?;
+            hits.look("state: a card is refused", (1..=10).contains(&tick));
             let none = self.both(Call::Run(0), &bytes, &state)?.number;
             for refusal in [0, 12, 13] {
                 let class = format!("state: run of none answers 0, a tick {refusal}");
@@ -360,6 +373,16 @@ impl Tables {
         }
         Ok(count)
     }
+}
+
+/// A NaN that is neither the arithmetic's own nor signalling.
+fn other_quiet(x: &f32) -> bool {
+    x.is_nan() && !signalling(x) && x.to_bits() << 1 != f32::NAN.to_bits() << 1
+}
+
+/// A NaN that any operation would make quiet.
+fn signalling(x: &f32) -> bool {
+    x.is_nan() && x.to_bits() & 1 << 22 == 0
 }
 
 /// Which totals a tick left: limits that were hit, motors that pushed.
@@ -419,7 +442,7 @@ fn note_state(card: &Card, state: &[f32], hits: &mut Hits) {
 mod tests {
     use super::super::ORACLE;
     use super::*;
-    use crate::table::{Ran, Sizes};
+    use crate::table::Sizes;
 
     fn against(rattle: Table) -> Tables {
         Tables {
@@ -439,6 +462,12 @@ mod tests {
         assert_eq!(hits.missed(), [""; 0], "{}", hits.lines());
         let mut hits = Hits::default();
         tables.states(1, 4000, &mut hits).unwrap();
+        assert_eq!(hits.missed(), [""; 0], "{}", hits.lines());
+        let mut hits = Hits::default();
+        tables.families(1, 3000, &mut hits).unwrap();
+        assert_eq!(hits.missed(), [""; 0], "{}", hits.lines());
+        let mut hits = Hits::default();
+        tables.lists(1, 2000, &mut hits).unwrap();
         assert_eq!(hits.missed(), [""; 0], "{}", hits.lines());
     }
 
