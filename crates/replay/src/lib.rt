@@ -20,7 +20,7 @@ pub fn number(bits: u32) -> f32 {
 }
 
 // A NaN is 7fc00000.
-fn bits(x: f32) -> u32 {
+pub fn bits(x: f32) -> u32 {
     if x != x {
         return 2143289344;
     }

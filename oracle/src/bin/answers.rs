@@ -1,8 +1,10 @@
 //! Writes the stored answers that the Rattle test programs replay: `answers DIR`, where DIR holds the crates, writes DIR/NAME/stdin and DIR/NAME/stdout
-//! of replay_root and replay_trig. A NaN is written as 7fc00000.
+//! of replay_root, replay_trig and replay_table. A NaN is written as 7fc00000.
 
 use oracle::compare::leaves::{angles, roots};
-use oracle::math;
+use oracle::families::FAMILIES;
+use oracle::generate::Random;
+use oracle::{math, table};
 use std::fmt::Write;
 use std::io;
 use std::path::{Path, PathBuf};
@@ -65,6 +67,40 @@ fn trig() -> Answers {
     }
 }
 
+/// Cards of each family and ticks of each card: `rt try` gives the interpreter 10,000,000 steps for all of them.
+const REPLAYED: [(u64, u16); FAMILIES.len()] = [(2, 2), (1, 1), (1, 1), (2, 1), (8, 1), (5, 1)];
+
+/// A polynomial in the numbers' bits, modulo the largest prime below 2^32.
+fn sum(state: &[f32]) -> u64 {
+    state.iter().fold(0, |sum, x| {
+        (sum * 16777619 + u64::from(x.to_bits())) % 4294967291
+    })
+}
+
+/// A tick count, a card's length and a card of a family to a line with the number that a run answers, the ticks done and the sum of the state after.
+fn table() -> Answers {
+    let mut input = Vec::new();
+    let mut output = String::new();
+    let counts = FAMILIES.iter().zip(REPLAYED);
+    let cases = counts
+        .flat_map(|(family, (cards, ticks))| (0..cards).map(move |case| (family, case, ticks)));
+    for (family, case, ticks) in cases {
+        let card = (family.draw)(&mut Random::of_case(1, case));
+        let bytes = card.encode();
+        let mut state = table::start_state(&card);
+        let ran = table::run(&bytes, &mut state, ticks.into());
+        input.extend(ticks.to_be_bytes());
+        input.extend((bytes.len() as u16).to_be_bytes());
+        input.extend(bytes);
+        writeln!(output, "{} {} {:08x}", ran.number, ran.done, sum(&state)).unwrap();
+    }
+    Answers {
+        name: "replay_table",
+        input,
+        output,
+    }
+}
+
 fn write(crates: &Path, answers: &Answers) -> io::Result<()> {
     let folder = crates.join(answers.name);
     std::fs::write(folder.join("stdin"), &answers.input)?;
@@ -83,7 +119,7 @@ fn main() -> ExitCode {
         eprintln!("usage: answers DIR");
         return ExitCode::from(2);
     };
-    for answers in [root(), trig()] {
+    for answers in [root(), trig(), table()] {
         if let Err(error) = write(&crates, &answers) {
             eprintln!("{}: {error}", answers.name);
             return ExitCode::FAILURE;
