@@ -10,7 +10,7 @@ use lib.Ieee.{Float}
 use borrow.Author.Tests.{ne-eqb}
 use Rattle.scalar.specs.Arith.{if_then_else_}
 use Rattle.solver_body.specs.declared.BodyState.{BodyState}
-use Rattle.xpbd_plugin.specs.Joint.{noTotals}
+use Rattle.xpbd_joints.specs.Steps.{noTotals}
 use Rattle.stages.proofs.Choice.{either}
 use Rattle.numbers.specs.Lists.{each, after}
 use Rattle.numbers.proofs.Loops.{after-all}
@@ -19,8 +19,8 @@ use Rattle.card.specs.Card.{flag, Card, cardOf}
 use Rattle.card.specs.Checks.{firstOf, checkOf}
 use Rattle.loader.specs.Linkage.{Linkage, bodyIn, bodyOf, startBody, linkageOf}
 use Rattle.state.specs.State.{bodyAt, numbersOf, startState, startChecks, startOf}
-use Rattle.table.specs.Tick.{solved, newBody, newState}
-use Rattle.table.specs.Run.{Ran, tickOf, tickNext, runOf}
+use Rattle.tick.specs.Tick.{solved, newBody, newState}
+use Rattle.tick.specs.Run.{Ran, tickOf, tickNext, runOf}
 use Rattle.demand.specs.Demand.{Call, start, tick, ticks, leaves, afterCalls, CardOrRefused, AnchoredKept}
 use Rattle.demand.proofs.Checks.{start-passed, tick-passed}
 use Rattle.demand.proofs.Rows.{body-part, part-read}

@@ -10,8 +10,8 @@ use Rattle.card.specs.Checks.{Refusal, refuse, firstOf, checkOf}
 use Rattle.card.proofs.Accepted.{passed}
 use Rattle.loader.specs.Linkage.{linkageOf}
 use Rattle.state.specs.State.{startChecks, stateChecks, startOf}
-use Rattle.table.specs.Tick.{stopped}
-use Rattle.table.specs.Run.{tickOf}
+use Rattle.tick.specs.Tick.{stopped}
+use Rattle.tick.specs.Run.{tickOf}
 
 -- the card's are the first ten
 none-of : (n : ℕ) (checks : List Refusal) → firstOf checks ≡ 0 → firstOf (take n checks) ≡ 0

@@ -1,10 +1,10 @@
 -- Demand 3.
-use Rattle.stages.specs.Steps.{Event, aStage, aPush}
+use Rattle.xpbd_joints.specs.Steps.{Event, aStage, aPush}
 use Rattle.stages.proofs.Sound.{EventSound, all-at}
 use Rattle.stages.proofs.Laws.{bounded, capped, softer-of}
 use Rattle.demand.specs.Demand.{EventOfTick, DemandThree}
 use Rattle.demand.proofs.Anchored.{anchored-kept}
-use Rattle.demand.proofs.Ticking.{solve-is-steps, tick-sound}
+use Rattle.demand.proofs.Ticking.{traces, tick-sound}
 
 sound : (e : Event) → EventOfTick e → EventSound e
 sound e h = all-at EventSound (tick-sound (h .card) (h .state) (h .done) (h .joint) (h .on-card)) (h .among)
@@ -12,7 +12,7 @@ sound e h = all-at EventSound (tick-sound (h .card) (h .state) (h .done) (h .joi
 pub demand-three : DemandThree
 demand-three =
     record {
-      faithful = solve-is-steps;
+      traced = traces;
       stages = λ s h. bounded s (sound (aStage s) h);
       motors = λ p h. capped p (sound (aPush p) h);
       compliances = λ stiff soft h k e l. softer-of stiff soft (sound (aStage stiff) h) (sound (aStage soft) k) e l;

@@ -12,24 +12,19 @@ use Rattle.solver_body.specs.declared.BodyState.{BodyState}
 use Rattle.solver_body.specs.declared.SolverBody.{SolverBody}
 use Rattle.solver_body.specs.declared.SolverBodyInertia.{SolverBodyInertia}
 use Rattle.solver_body.specs.declared.BodyPair.{BodyPair}
-use Rattle.xpbd_joints.specs.Revolute as hinge
-use Rattle.xpbd_joints.specs.Prismatic as slide
-use Rattle.xpbd_joints.specs.declared.revolute.RevoluteSolved.{RevoluteSolved}
-use Rattle.xpbd_joints.specs.declared.prismatic.PrismaticSolved.{PrismaticSolved}
-use Rattle.xpbd_plugin.specs.Joint.{jointWarmed, jointSolved, noTotals}
-use Rattle.xpbd_plugin.specs.declared.PreparedJoint.{PreparedJoint}
-use Rattle.xpbd_plugin.specs.declared.PreparedJoint.the-variants.{Fixed, Revolute, Prismatic, Spherical, Distance}
-use Rattle.stages.specs.Steps.{Setting, Run}
-use Rattle.stages.specs.Any.{stepsOf, solveStart}
+use Rattle.xpbd_joints.specs.Revolute.{spun, revoluteWarmed}
+use Rattle.xpbd_joints.specs.Prismatic.{pushedBy, prismaticWarmed}
+use Rattle.xpbd_joints.specs.Stage.{Setting}
+use Rattle.xpbd_joints.specs.Steps.{noTotals, Step, compliant, hingeMotor, slideMotor, warmedBy, warmed}
+use Rattle.xpbd_joints.specs.declared.JointTotals.{JointTotals}
 use Rattle.stages.proofs.Choice.{either}
 use Rattle.stages.proofs.Vec.{Fits3, origin-fits3}
 use Rattle.stages.proofs.Sound.{Fit, run-fit}
-use Rattle.stages.proofs.Faithful.{joint-is-steps}
 use Rattle.tick.specs.Body.{integrated}
 use Rattle.numbers.proofs.Loops.{after-all}
 use Rattle.loader.specs.Linkage.{Linkage}
 use Rattle.state.specs.State.{bodyAt}
-use Rattle.table.specs.Tick.{Solved, body, joint, put, eachMoving, inertias, prepared, pair, putPair, loaded, warmStartNext, warmStarted, preSolve, solveNext, solvedTo}
+use Rattle.tick.specs.Tick.{Solved, body, joint, put, eachMoving, pair, putPair, setting, steps, found, loaded, warmStartNext, warmStarted, preSolve, solveNext, solvePass, solvedTo}
 
 abbrev Fitting : SolverBody → Type 0
 Fitting b = Fits3 (b .«delta_position»)
@@ -61,18 +56,16 @@ unfolding solverBodyOf
 loaded-fit b = origin-fits3
 
 -- a warm start changes velocities alone
-warm-fit : (p : PreparedJoint) (b : BodyPair) (i₁ i₂ : SolverBodyInertia) (c : Float) → Fit b → Fit (jointWarmed p b i₁ i₂ c)
-unfolding jointWarmed hinge.revoluteWarmStarted slide.prismaticWarmStarted hinge.spun slide.pushedBy
-warm-fit (Fixed j k) b i₁ i₂ c f = f
-warm-fit (Revolute j k) b i₁ i₂ c f = either (λ (r : RevoluteSolved). Fit (r .bodies)) (not (j .motor .enabled)) _ _ f (record { p₁ = f .p₁; p₂ = f .p₂ })
-warm-fit (Prismatic j k) b i₁ i₂ c f = either (λ (r : PrismaticSolved). Fit (r .bodies)) (not (j .motor .enabled)) _ _ f (record { p₁ = f .p₁; p₂ = f .p₂ })
-warm-fit (Spherical j k) b i₁ i₂ c f = f
-warm-fit (Distance j k) b i₁ i₂ c f = f
+warmed-fit : (S : Setting) (c : Float) (last : JointTotals) (s : Step) (b : BodyPair) → Fit b → Fit (warmedBy S c last s b)
+unfolding revoluteWarmed prismaticWarmed spun pushedBy
+warmed-fit S c last (compliant l k α) b f = f
+warmed-fit S c last (hingeMotor m a₁ b₁ b₂) b f = either Fit (not (m .enabled)) b _ f (record { p₁ = f .p₁; p₂ = f .p₂ })
+warmed-fit S c last (slideMotor m r₁ r₂ d axis) b f = either Fit (not (m .enabled)) b _ f (record { p₁ = f .p₁; p₂ = f .p₂ })
 
-solved-fit : (p : PreparedJoint) (b : BodyPair) (i₁ i₂ : SolverBodyInertia) (h : Float) → Fit b → Fit (jointSolved p b i₁ i₂ h .bodies)
-solved-fit p b i₁ i₂ h f =
-    let S : Setting = record { dt = h; inertia1 = i₁; inertia2 = i₂ } in
-    subst (λ (r : Run). Fit (r .bodies)) (joint-is-steps S p b) (run-fit S (stepsOf p) (solveStart p b) f)
+warm-fit : (S : Setting) (c : Float) (last : JointTotals) (l : List Step) (b : BodyPair) → Fit b → Fit (warmed S c last l b)
+unfolding warmed
+warm-fit S c last [] b f = f
+warm-fit S c last (s ∷ l) b f = warm-fit S c last l (warmedBy S c last s b) (warmed-fit S c last s b f)
 
 -- ---- the tick
 
@@ -101,21 +94,21 @@ module _ (K : Linkage) (s : List Float) where
   unfolding warmStarted
   warm-start-fit =
       after-all (warmStartNext K s) (loaded K s) FitAll (length (K .joints)) load-fit
-      (λ j l m f. put-fit j _ l f (warm-fit (prepared K s j) (pair K j l) (inertias K j .inertia1) (inertias K j .inertia2) (K .«warm_coefficient») (pair-fit j l f)))
+      (λ j l m f. put-fit j _ l f (warm-fit (setting K true j) _ _ (steps K s j) (pair K j l) (pair-fit j l f)))
 
   pre-solve-fit : FitAll (preSolve K s)
   unfolding preSolve
   pre-solve-fit = each-fit (λ i b. integrated b (body K i .inertia) (K .gravity) (K .dt)) (λ i b. integrated-fit b (body K i .inertia) (K .gravity) (K .dt)) (warmStarted K s) warm-start-fit
 
-  next-fit : (j : ℕ) (σ : Solved) → FitAll (σ .bodies) → FitAll (solveNext K s j σ .bodies)
+  next-fit : (j : ℕ) (σ : Solved) → FitAll (σ .bodies) → FitAll (solveNext K s true j σ .bodies)
   unfolding solveNext
   next-fit j σ f =
       let l = σ .bodies in
-      put-fit j _ l f (solved-fit (prepared K s j) (pair K j l) (inertias K j .inertia1) (inertias K j .inertia2) (K .dt) (pair-fit j l f))
+      put-fit j _ l f (run-fit (setting K true j) (steps K s j) (found K s j σ) (pair-fit j l f))
 
   -- what joint j finds
   pub found-fit : (j : ℕ) → FitAll (solvedTo K s j .bodies)
-  unfolding solvedTo
+  unfolding solvePass
   found-fit j =
-      after-all (solveNext K s) (record { bodies = preSolve K s; totals = map (λ k. noTotals) (K .joints); finite = true }) (λ (σ : Solved). FitAll (σ .bodies)) j
+      after-all (solveNext K s true) (record { bodies = preSolve K s; totals = map (λ k. noTotals) (K .joints); finite = true }) (λ (σ : Solved). FitAll (σ .bodies)) j
       pre-solve-fit (λ k σ m f. next-fit k σ f)

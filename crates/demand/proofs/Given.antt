@@ -19,13 +19,9 @@ use Rattle.joints.specs.declared.AngleLimitOption.the-variants.{Unlimited, Limi
 use Rattle.solver_body.specs.Body.{dummyInertia, unlocked, effectiveInvMass}
 use Rattle.solver_body.specs.declared.RigidBody.{RigidBody}
 use Rattle.solver_body.specs.declared.SolverBodyInertia.{SolverBodyInertia}
-use Rattle.xpbd_plugin.specs.Plugin.{dominatedOf}
-use Rattle.xpbd_plugin.specs.Joint.{jointPrepared}
-use Rattle.xpbd_plugin.specs.declared.InertiaPair.{InertiaPair}
 use Rattle.laws.proofs.Place.{Held}
 use Rattle.laws.proofs.Step.{step-held}
-use Rattle.stages.specs.Joints.{hingeLimitSteps, swingSteps, twistSteps}
-use Rattle.stages.specs.Any.{stepsOf}
+use Rattle.xpbd_joints.specs.Steps.{stepsOf}
 use Rattle.stages.proofs.Choice.{either}
 use Rattle.stages.proofs.Vec.{Held3}
 use Rattle.stages.proofs.Sound.{SettingOk, StepOk, All, all-append}
@@ -38,8 +34,9 @@ use Rattle.card.proofs.Cut.{records-length, record-at}
 use Rattle.card.proofs.Edition1.{only-edition, edition-is}
 use Rattle.card.proofs.Accepted.{accepted}
 use Rattle.loader.specs.Linkage.{Linkage, angularMotorIn, linearMotorIn, fixedIn, revoluteIn, prismaticIn, sphericalIn, distanceIn, kindIn, bodyIn, bodyOf, jointOf, linkageOf}
-use Rattle.table.specs.Tick as tick
-use Rattle.demand.specs.Trace.{settingAt}
+use Rattle.tick.specs.Tick as tick
+use Rattle.tick.specs.Joint.{dominatedOf}
+use Rattle.tick.specs.declared.joint.InertiaPair.{InertiaPair}
 
 -- ---- inverse masses
 
@@ -89,28 +86,13 @@ Compliant (Prismatic j) = Soft (j .«angle_compliance») × Soft (j .«align_com
 Compliant (Spherical j) = Soft (j .«point_compliance») × Soft (j .«swing_compliance») × Soft (j .«twist_compliance»)
 Compliant (Distance j) = Soft (j .compliance)
 
-hinge-limit-ok : (o : AngleLimitOption) (a b c : Vec3) (α : Float) → Soft α → All StepOk (hingeLimitSteps o a b c α)
-hinge-limit-ok Unlimited a b c α h = tt
-hinge-limit-ok (Limited l) a b c α h = (h, tt)
-
-swing-ok : (o : AngleLimitOption) (a b : Vec3) (α : Float) → Soft α → All StepOk (swingSteps o a b α)
-swing-ok Unlimited a b α h = tt
-swing-ok (Limited l) a b α h = (h, tt)
-
-twist-ok : (o : AngleLimitOption) (a b c d : Vec3) (α : Float) → Soft α → All StepOk (twistSteps o a b c d α)
-twist-ok Unlimited a b c d α h = tt
-twist-ok (Limited l) a b c d α h = (h, tt)
-
-prepared-ok : (j : Joint) → Compliant j → (b₁ b₂ : RigidBody) (w : Vec3) → All StepOk (stepsOf (jointPrepared j b₁ b₂ w))
-unfolding jointPrepared stepsOf
-prepared-ok (Fixed j) h b₁ b₂ w = (h .1, (h .0, tt))
-prepared-ok (Revolute j) h b₁ b₂ w = (h .1, (h .3, all-append StepOk (hingeLimitSteps (j .«angle_limit») _ _ _ (j .«limit_compliance»)) _ (hinge-limit-ok (j .«angle_limit») _ _ _ (j .«limit_compliance») (h .2)) (h .0, tt)))
-prepared-ok (Prismatic j) h b₁ b₂ w = (h .0, (h .2, (h .1, tt)))
-prepared-ok (Spherical j) h b₁ b₂ w = (
-  h .0,
-  all-append StepOk (swingSteps (j .«swing_limit») _ _ (j .«swing_compliance»)) _ (swing-ok (j .«swing_limit») _ _ (j .«swing_compliance») (h .1)) (twist-ok (j .«twist_limit») _ _ _ _ (j .«twist_compliance») (h .2)),
-)
-prepared-ok (Distance j) h b₁ b₂ w = (h, tt)
+steps-of-ok : (j : Joint) → Compliant j → (b₁ b₂ : RigidBody) → All StepOk (stepsOf j b₁ b₂)
+unfolding stepsOf
+steps-of-ok (Fixed j) h b₁ b₂ = (h .1, (h .0, tt))
+steps-of-ok (Revolute j) h b₁ b₂ = (h .1, (h .3, (h .2, (h .0, tt))))
+steps-of-ok (Prismatic j) h b₁ b₂ = (h .0, (h .2, (h .1, tt)))
+steps-of-ok (Spherical j) h b₁ b₂ = (h .0, (h .1, (h .2, tt)))
+steps-of-ok (Distance j) h b₁ b₂ = (h, tt)
 
 soft : {x : Float} → Real f0 x → Soft x
 soft r = (r .held .0, r .above)
@@ -166,17 +148,17 @@ module _ (card : List ℕ) (z : checkOf card ≡ 0) (s : List Float) where
   joint-is j = List·getD-map jointOf (c .joints) j []
 
   module _ (j : ℕ) (h : j < length (c .joints)) where
-    pub setting-ok : SettingOk (settingAt K s j)
+    pub setting-ok : SettingOk (tick.setting K true j)
     setting-ok =
         let k = tick.joint K j in
         let n = has .joint j h in
         let m = dominated-held _ _ (mass-held (k .body1) (rw (joint-is j) (n .body1))) (mass-held (k .body2) (rw (joint-is j) (n .body2))) in
         record { dt-held = time-held; m₁ = masses-held _ (m .0); m₂ = masses-held _ (m .1) }
 
-    pub steps-ok : All StepOk (stepsOf (tick.prepared K s j))
-    unfolding tick.prepared cardOf
+    pub steps-ok : All StepOk (tick.steps K s j)
+    unfolding tick.steps cardOf
     steps-ok =
         let e = edition-is card (only-edition (accepted card z .edition)) in
-        prepared-ok (tick.joint K j .joint)
+        steps-of-ok (tick.joint K j .joint)
         (rw (joint-is j) (each-has (λ ns. Compliant (jointOf ns .joint)) (editionAt card .joint) card (rw e (joint-compliant card)) _ _ j h (has .joint j h .ranged)))
-        _ _ _
+        _ _

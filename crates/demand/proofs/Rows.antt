@@ -8,7 +8,7 @@ use lib.ListN.{length, getD, take, drop}
 use lib.Seq.{getD-take, getD-drop, drop-append-add}
 use lib.Ieee.{Float, nan}
 use Rattle.solver_body.specs.declared.BodyState.{BodyState}
-use Rattle.xpbd_plugin.specs.declared.JointTotals.{JointTotals}
+use Rattle.xpbd_joints.specs.declared.JointTotals.{JointTotals}
 use Rattle.numbers.specs.Lists.{concat}
 use Rattle.numbers.specs.Numbers.{numberIn, vec3In, quatIn}
 use Rattle.state.specs.State.{bodyNumbers, bodyAt, numbersOf, stateOf}

@@ -1,21 +1,21 @@
 -- Demand 3 over whole ticks and lists of calls: document 01, 'What demand 3 speaks of'.
-use Prim.Native.Nat.{ℕ, _*_, _<_}
+use Prim.Native.Nat.{ℕ, suc, _*_, _<_}
 use mathlib.Core.Path.{_≡_}
+use mathlib.Core.Bool.{true}
 use mathlib.Core.Logic.{_⊎_}
 use mathlib.Core.List.{List, [], _∷_, List·Memᴰ}
 use lib.ListN.{length, getD, take, drop}
 use lib.Dec.{T}
 use lib.Ieee.{Float, le}
-use Rattle.stages.specs.Stage.{Stage}
-use Rattle.stages.specs.Steps.{run, MotorPush, Event, aStage, aPush}
-use Rattle.stages.specs.Any.{solveRun}
+use Rattle.xpbd_joints.specs.Stage.{Stage, entryOf}
+use Rattle.xpbd_joints.specs.Steps.{run, MotorPush, Event, aStage, aPush, events}
 use Rattle.stages.specs.Demand.{Bounded, Capped, Softer}
 use Rattle.card.specs.Card.{flag, Card, cardOf}
 use Rattle.card.specs.Checks.{checkOf}
 use Rattle.loader.specs.Linkage.{Linkage, startBody, linkageOf}
 use Rattle.state.specs.State.{bodyNumbers, numbersOf, startState, startOf}
-use Rattle.table.specs.Run as table
-use Rattle.demand.specs.Trace.{solveAt, settingAt, stepsAt, startAt, eventsAt}
+use Rattle.tick.specs.Tick.{setting, putPair, steps, found, solvedTo, eventsAt}
+use Rattle.tick.specs.Run as calls
 
 -- ---- stages and motors
 
@@ -23,7 +23,7 @@ use Rattle.demand.specs.Trace.{solveAt, settingAt, stepsAt, startAt, eve
 pub record EventOfTick (e : Event) : Type 0 where
   pub card : List ℕ
   pub state : List Float
-  pub done : table.tickOf card state .number ≡ 0
+  pub done : calls.tickOf card state .number ≡ 0
   pub joint : ℕ
   pub on-card : joint < length (cardOf card .joints)
   pub among : List·Memᴰ e (eventsAt (linkageOf (cardOf card)) state joint)
@@ -38,8 +38,8 @@ pub data Call : Type 0 where
 -- the state that it leaves with the bytes that it brings, refused or not
 abbrev pub leaves : Call × List ℕ → List Float → List Float
 leaves (start, bytes) s = startOf bytes s .state
-leaves (tick, bytes) s = table.tickOf bytes s .state
-leaves (ticks n, bytes) s = table.runOf bytes s n .state
+leaves (tick, bytes) s = calls.tickOf bytes s .state
+leaves (ticks n, bytes) s = calls.runOf bytes s n .state
 
 unfoldable pub afterCalls : List (Call × List ℕ) → List Float → List Float
 afterCalls [] s = s
@@ -58,15 +58,19 @@ AnchoredKept c s =
 -- ---- the demand
 
 pub record DemandThree : Type 0 where
-  -- a joint's solve is the run of its steps: the stages and pushes are all that it makes
-  pub faithful : (K : Linkage) (s : List Float) (j : ℕ) → run (settingAt K s j) (stepsAt K s j) (startAt K s j) ≡ solveRun (solveAt K s j)
+  -- joint j's events are those of the run by which the tick's solve goes on at joint j
+  pub traced :
+      (K : Linkage) (s : List Float) (j : ℕ)
+      → let r = found K s j (solvedTo K s j) in
+      (eventsAt K s j ≡ events (setting K true j) (steps K s j) r)
+      × (solvedTo K s (suc j) .bodies ≡ putPair K j (run (setting K true j) (steps K s j) r .bodies) (solvedTo K s j .bodies))
   -- each stage's multiplier is exactly zero where w ≤ 2^-23, else between zero and -c / w
   pub stages : (s : Stage) → EventOfTick (aStage s) → Bounded s
   -- each motor's multiplier is under its cap
   pub motors : (p : MotorPush) → EventOfTick (aPush p) → Capped p
-  -- of two stages with the same name, entered with equal numbers, the softer's multiplier is no larger, and in a position stage both displacements lie between the value before and the stiffer's
+  -- of two stages with the same name that read equal numbers, the compliance apart, the softer's multiplier is no larger, and in a position stage both displacements lie between the value before and the stiffer's
   pub compliances :
-      (stiff soft : Stage) → EventOfTick (aStage stiff) → EventOfTick (aStage soft) → stiff .entry ≡ soft .entry → T (le (stiff .compliance) (soft .compliance)) → Softer stiff soft
+      (stiff soft : Stage) → EventOfTick (aStage stiff) → EventOfTick (aStage soft) → entryOf stiff ≡ entryOf soft → T (le (stiff .compliance) (soft .compliance)) → Softer stiff soft
   -- from the start state of a card that no check refuses, whatever calls follow, each with that card or with bytes that those checks refuse
   pub anchored :
       (card : List ℕ) → checkOf card ≡ 0 → (l : List (Call × List ℕ)) → ((c : Call × List ℕ) → List·Memᴰ c l → CardOrRefused card (c .1))

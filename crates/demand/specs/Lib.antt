@@ -1,3 +1,2 @@
-pub mod Trace
 pub mod Demand
 pub mod Sample

@@ -2,12 +2,12 @@
 ghost use mathlib.Core.Path.{_≡_};
 ghost use Rattle.card.specs.Checks.{checkOf};
 ghost use Rattle.state.specs.State.{answered, startOf, sizesOf};
-ghost use Rattle.table.specs.Run.{tickOf, runOf};
+ghost use Rattle.tick.specs.Run.{tickOf, runOf};
 use card::checks::check;
 use state::sizes::sizes;
 use state::start::start;
-use table::run::run;
-use table::run::tick;
+use tick::run::run;
+use tick::run::tick;
 
 #[no_mangle]
 pub extern "C" fn linkage_check(card: &[u8]) -> u32

@@ -1,5 +1,5 @@
 -- A motor's multiplier by its model, both the Rust's own. Definitions only.
-use mathlib.Core.Bool.{_&&_}
+use mathlib.Core.Bool.{Bool, not, _&&_}
 use lib.Ieee.{Float, neg, lt, le}
 use Rattle.scalar.specs.Arith.{if_then_else_, _⊕_, _⊗_, _⊘_, f0, f1, f2, epsilon, largest, tau}
 use Rattle.scalar.specs.Scalar.{absOf, clampOf}
@@ -33,3 +33,7 @@ unfoldable pub motorLagrange : MotorModel → Float → Float → Float → Floa
 motorLagrange model cap v x w h =
     let correction = velocityChange model v x w h ⊗ h in
     if le (absOf correction) epsilon then None else Some (capped (correction ⊘ w) cap h)
+
+-- none where the motor is off or both bodies are as good as fixed
+unfoldable pub unlessOff : Bool → Float → MotorLagrange → MotorLagrange
+unlessOff enabled w given = if not enabled then None else if le w epsilon then None else given

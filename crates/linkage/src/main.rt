@@ -4,7 +4,7 @@ use libc::STDOUT_FILENO;
 use state::places::BODY_NUMBERS;
 use state::sizes::sizes;
 use state::start::start;
-use table::run::tick;
+use tick::run::tick;
 ghost use Prim.Native.Nat.{_+_, _*_, _≤_, _<_};
 ghost use lib.ListN.{length};
 ghost use Rattle.state.specs.State.{bodyNumbers};

@@ -3,7 +3,7 @@ use Rattle.root.proofs.Closest.{root-exact}
 use Rattle.series.proofs.Nearest.{nearest}
 use Rattle.series.proofs.Interpolation.{interpolation}
 use Rattle.trig.proofs.Accuracy.{accurate}
-use Rattle.table.proofs.Examples as line
+use Rattle.tick.proofs.Examples as line
 use Rattle.examples.proofs.Examples as marked
 use Rattle.demand.proofs.Demand.{demand-three}
 use Rattle.demand.proofs.Sample.{sample-holds}

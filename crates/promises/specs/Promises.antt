@@ -6,7 +6,7 @@ use Rattle.root.specs.Nearest.{RootIsNearest}
 use Rattle.series.specs.Nearest.{Nearest}
 use Rattle.series.specs.Interpolation.{Interpolation}
 use Rattle.trig.specs.Accuracy.{Accurate}
-use Rattle.table.specs.Examples as line
+use Rattle.tick.specs.Examples as line
 use Rattle.examples.specs.Examples as marked
 use Rattle.demand.specs.Demand.{DemandThree}
 use Rattle.demand.specs.Sample.{Sample}

@@ -16,13 +16,11 @@ use Rattle.solver_body.specs.declared.SolverBodyInertia.{SolverBodyInertia}
 use Rattle.solver_body.specs.declared.BodyPair.{BodyPair}
 use Rattle.xpbd.specs.Positional.{pushed, pulled, impulseApplied}
 use Rattle.xpbd.specs.Angular.{turned, angularImpulseApplied}
-use Rattle.xpbd_joints.specs.Revolute.{drivenBy}
-use Rattle.xpbd_joints.specs.Prismatic.{drivenAlong}
 use Rattle.laws.proofs.Place.{real}
 use Rattle.laws.proofs.Between.{finite-add}
-use Rattle.xpbd_plugin.specs.declared.JointTotals.{JointTotals}
-use Rattle.stages.specs.Stage.{positional, Stage, correctionOf, totalChange, multiplierOf, appliedTo, afterOf}
-use Rattle.stages.specs.Steps.{Slot, first, second, third, fourth, added, Step, compliant, hingeMotor, slideMotor, Setting, Run, stageAt, isCalled, uncalled, hingeGiven, slideGiven, hingeDriven, slideDriven, stepped, run, pushMultiplier}
+use Rattle.xpbd_joints.specs.declared.JointTotals.{JointTotals}
+use Rattle.xpbd_joints.specs.Stage.{Setting, entryOf, positional, Stage, correctionOf, totalChange, multiplierOf, appliedTo, afterOf}
+use Rattle.xpbd_joints.specs.Steps.{Slot, first, second, third, fourth, added, Step, compliant, hingeMotor, slideMotor, Run, stageAt, isCalled, uncalled, hingeGiven, slideGiven, hingeDriven, slideDriven, stepped, run, pushMultiplier}
 use Rattle.stages.proofs.Vec.{Finite3, add-back3, sub-back3, scale-back}
 
 -- both displacements
@@ -60,15 +58,15 @@ angular-back : (b : BodyPair) (I₁ I₂ : SymmetricTensor) (p : Vec3) → Still
 unfolding angularImpulseApplied turned
 angular-back b I₁ I₂ p h = record { d₁ = h .d₁; d₂ = h .d₂ }
 
-applied-back : (q : Bool) (s : Stage) → Still (appliedTo q s) → Still (s .entry .bodies)
+applied-back : (q : Bool) (s : Stage) → Still (appliedTo q s) → Still (s .bodies)
 applied-back true s h =
-    impulse-back (s .entry .bodies) (s .entry .inertia1) (s .entry .inertia2) (totalChange s) (correctionOf (s .entry) .r₁) (correctionOf (s .entry) .r₂) h
+    impulse-back (s .bodies) (s .setting .inertia1) (s .setting .inertia2) (totalChange s) (correctionOf (entryOf s) .r₁) (correctionOf (entryOf s) .r₂) h
 applied-back false s h =
-    angular-back (s .entry .bodies) (s .entry .inertia1 .«inv_angular_inertia») (s .entry .inertia2 .«inv_angular_inertia») (scaleOf (correctionOf (s .entry) .n) (neg (multiplierOf s))) h
+    angular-back (s .bodies) (s .setting .inertia1 .«inv_angular_inertia») (s .setting .inertia2 .«inv_angular_inertia») (scaleOf (correctionOf (entryOf s) .n) (neg (multiplierOf s))) h
 
-after-back : (s : Stage) → Still (afterOf s) → Still (s .entry .bodies)
+after-back : (s : Stage) → Still (afterOf s) → Still (s .bodies)
 unfolding afterOf
-after-back s h = applied-back (positional (s .entry .reads)) s h
+after-back s h = applied-back (positional (s .reads)) s h
 
 -- ---- one step
 uncalled-back : (q : Bool) (l : Slot) (r : Run) → Calm (uncalled q l r) → Calm r
@@ -76,16 +74,16 @@ uncalled-back true l r h = h
 uncalled-back false l r h = record { still = h .still; totals = added-back l origin (r .totals) (h .totals) .0 }
 
 -- v says whether the stage was called
-pub done-back : (v : Bool) (l : Slot) (s : Stage) (r : Run) → s .entry .bodies ≡ r .bodies
-    → Calm (if v then record { bodies = afterOf s; totals = added l (totalChange s) (r .totals) } else uncalled (correctionOf (s .entry) .still) l r)
+pub done-back : (v : Bool) (l : Slot) (s : Stage) (r : Run) → s .bodies ≡ r .bodies
+    → Calm (if v then record { bodies = afterOf s; totals = added l (totalChange s) (r .totals) } else uncalled (correctionOf (entryOf s) .still) l r)
     → Calm r × (T v → Finite3 (totalChange s))
 done-back true l s r e h =
     let k = added-back l (totalChange s) (r .totals) (h .totals) in
     (record { still = rw e at (after-back s (h .still)); totals = k .0 }, λ _. k .1)
-done-back false l s r e h = (uncalled-back (correctionOf (s .entry) .still) l r h, λ x. absurd x)
+done-back false l s r e h = (uncalled-back (correctionOf (entryOf s) .still) l r h, λ x. absurd x)
 
 pub hinge-back : (S : Setting) (g : MotorLagrange) (a : Vec3) (r : Run) → Calm (hingeDriven S g a r) → Calm r × T (real (pushMultiplier g))
-unfolding ofBits drivenBy
+unfolding ofBits
 hinge-back S None a r h = (h, tt)
 hinge-back S (Some Δλ) a r h =
     let k = added-back fourth (scaleOf a Δλ) (r .totals) (h .totals) in (
@@ -97,7 +95,7 @@ hinge-back S (Some Δλ) a r h =
     )
 
 pub slide-back : (S : Setting) (g : MotorLagrange) (r₁ r₂ a : Vec3) (r : Run) → Calm (slideDriven S g r₁ r₂ a r) → Calm r × T (real (pushMultiplier g))
-unfolding ofBits drivenAlong
+unfolding ofBits
 slide-back S None r₁ r₂ a r h = (h, tt)
 slide-back S (Some Δλ) r₁ r₂ a r h =
     let t = r .totals in
@@ -111,12 +109,18 @@ slide-back S (Some Δλ) r₁ r₂ a r h =
       scale-back a Δλ (k .1),
     )
 
+-- a motor's step, where motors push
+driven-back : (v : Bool) (x r : Run) → (Calm x → Calm r) → Calm (if v then x else r) → Calm r
+driven-back true x r f h = f h
+driven-back false x r f h = h
+
 pub step-back : (S : Setting) (s : Step) (r : Run) → Calm (stepped S s r) → Calm r
 step-back S (compliant l k α) r h = done-back (isCalled (stageAt S k α (r .bodies))) l (stageAt S k α (r .bodies)) r refl h .0
-step-back S (hingeMotor m a₁ b₁ b₂) r h = hinge-back S (hingeGiven S m a₁ b₁ b₂ (r .bodies)) (turnOf (r .bodies .body1 .«delta_rotation») a₁) r h .0
+step-back S (hingeMotor m a₁ b₁ b₂) r h =
+    driven-back (S .motors) _ r (λ k. hinge-back S (hingeGiven S m a₁ b₁ b₂ (r .bodies)) (turnOf (r .bodies .body1 .«delta_rotation») a₁) r k .0) h
 step-back S (slideMotor m arm₁ arm₂ d axis) r h =
     let q₁ = r .bodies .body1 .«delta_rotation» in
-    slide-back S (slideGiven S m arm₁ arm₂ d axis (r .bodies)) (turnOf q₁ arm₁) (turnOf (r .bodies .body2 .«delta_rotation») arm₂) (turnOf q₁ axis) r h .0
+    driven-back (S .motors) _ r (λ k. slide-back S (slideGiven S m arm₁ arm₂ d axis (r .bodies)) (turnOf q₁ arm₁) (turnOf (r .bodies .body2 .«delta_rotation») arm₂) (turnOf q₁ axis) r k .0) h
 
 -- ---- a list of steps
 pub run-back : (S : Setting) (l : List Step) (r : Run) → Calm (run S l r) → Calm r

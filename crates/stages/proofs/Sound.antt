@@ -8,12 +8,11 @@ use lib.Ieee.Fits.{sub-fits, div-fits}
 use lib.Ieee.Bits.{ofBits-fits}
 use Rattle.scalar.specs.Arith.{if_then_else_, _⊖_, _⊗_, _⊘_, f0, epsilon, pi}
 use Rattle.scalar.specs.Scalar.{absOf}
-use Rattle.vector.specs.Vector.{negOf, divOf, crossOf, lengthOf, lengthSquaredOf}
+use Rattle.vector.specs.Vector.{negOf, scaleOf, divOf, crossOf, lengthOf, lengthSquaredOf}
 use Rattle.vector.specs.Rotation.{turnOf}
 use Rattle.vector.specs.declared.Vec3.{Vec3}
-use Rattle.vector.specs.declared.Quat.{Quat}
 use Rattle.joints.specs.Limit.{uncorrected, distanceCorrection, angleCorrection}
-use Rattle.joints.specs.Motor.{velocityChange, capped, motorLagrange}
+use Rattle.joints.specs.Motor.{velocityChange, capped, motorLagrange, unlessOff}
 use Rattle.joints.specs.declared.DistanceLimit.{DistanceLimit}
 use Rattle.joints.specs.declared.DistanceCorrection.{DistanceCorrection}
 use Rattle.joints.specs.declared.AngleCorrection.{AngleCorrection}
@@ -28,27 +27,30 @@ use Rattle.solver_body.specs.declared.BodyPair.{BodyPair}
 use Rattle.xpbd.specs.FixedAngle.{rotationDifference}
 use Rattle.xpbd.specs.Positional.{pushed, pulled, impulseApplied}
 use Rattle.xpbd.specs.Angular.{turned, angularImpulseApplied}
-use Rattle.xpbd_joints.specs.Stage.{unlessOff}
-use Rattle.xpbd_joints.specs.Revolute.{drivenBy, angularMotorGiven}
-use Rattle.xpbd_joints.specs.Prismatic.{drivenAlong, linearMotorGiven, slideCorrection}
+use Rattle.xpbd_joints.specs.Revolute.{angularMotorGiven}
+use Rattle.xpbd_joints.specs.Prismatic.{linearMotorGiven, slideCorrection}
 use Rattle.xpbd_joints.specs.Spherical.{swingCorrection, twistCorrection}
 use Rattle.laws.proofs.Place.{real, Held}
-use Rattle.stages.specs.Stage.{Reads, fixedPoint, fixedAngle, hingePoint, hingeAlign, hingeLimit, slideAngle, slideAlign, ballPoint, ballSwing, ballTwist, tether, positional, Entry, Stage, limitAsked, turned₁, turned₂, separation, asked, correctionOf, totalChange, appliedTo, afterOf}
-use Rattle.stages.specs.Steps.{Slot, added, Step, compliant, hingeMotor, slideMotor, Setting, Run, stageAt, isCalled, uncalled, hingeGiven, slideGiven, hingeDriven, slideDriven, stepped, run, MotorPush, pushMultiplier, Event, aStage, aPush, eventsOf, events}
+use Rattle.xpbd_joints.specs.Stage.{Reads, point, angle, hingeAlign, hingeLimit, slideAlign, swing, twist, tether, positional, Entry, limited, limitAsked, turned₁, turned₂, separation, asked, Setting, Stage, entryOf, correctionOf, multiplierAt, totalChange, appliedTo, afterOf}
+use Rattle.xpbd_joints.specs.Steps.{Slot, added, Step, compliant, hingeMotor, slideMotor, Run, stageAt, isCalled, uncalled, hingeGiven, slideGiven, hingeDriven, slideDriven, stepped, run, MotorPush, pushMultiplier, Event, aStage, aPush, eventsOf, events}
 use Rattle.stages.proofs.Choice.{either}
 use Rattle.stages.proofs.Vec.{Finite3, Fits3, Held3, held3, add-fits3, sub-fits3, div-fits3, origin-fits3, length-fits}
 use Rattle.stages.proofs.Back.{Calm, done-back, hinge-back, slide-back, run-back}
 
-pub record SoundStage (s : Stage) : Type 0 where
-  pub error-fits : T (fits binary32 (correctionOf (s .entry) .error))
-  pub n-fits : Fits3 (correctionOf (s .entry) .n)
-  pub soft-fits : T (fits binary32 (s .compliance))
-  pub soft-up : T (le f0 (s .compliance))
-  pub change : Finite3 (totalChange s)
-  pub d₁ : Held3 (s .entry .bodies .body1 .«delta_position»)
-  pub d₂ : Held3 (s .entry .bodies .body2 .«delta_position»)
-  pub q₁ : Held3 (effectiveInvMass (s .entry .inertia1))
-  pub q₂ : Held3 (effectiveInvMass (s .entry .inertia2))
+-- a stage entered with e at the compliance α
+pub record SoundEntry (e : Entry) (α : Float) : Type 0 where
+  pub error-fits : T (fits binary32 (correctionOf e .error))
+  pub n-fits : Fits3 (correctionOf e .n)
+  pub soft-fits : T (fits binary32 α)
+  pub soft-up : T (le f0 α)
+  pub change : Finite3 (scaleOf (correctionOf e .n) (multiplierAt e α))
+  pub d₁ : Held3 (e .x₁)
+  pub d₂ : Held3 (e .x₂)
+  pub q₁ : Held3 (e .m₁)
+  pub q₂ : Held3 (e .m₂)
+
+abbrev pub SoundStage : Stage → Type 0
+SoundStage s = SoundEntry (entryOf s) (s .compliance)
 
 -- what a motor gives: none, or a multiplier after the cap
 pub data Given (cap dt : Float) : MotorLagrange → Type 0 where
@@ -120,23 +122,14 @@ limit-fits : (e : Entry) (c : AngleCorrection) → FitAsked (limitAsked e c .err
 limit-fits e limit.None = (ofBits-fits binary32 0, origin-fits3)
 limit-fits e (limit.Some d) = rotation-fits d
 
-point-fits : (s : Vec3) → FitAsked (lengthOf s) (divOf (negOf s) (lengthOf s))
-point-fits s = (length-fits s, div-fits3 (negOf s) (lengthOf s))
-
-abbrev apart : Entry → Quat → Vec3
-apart e q = rotationDifference q (e .bodies .body1 .«delta_rotation») (e .bodies .body2 .«delta_rotation»)
-
-asked-fits : (k : Reads) (e : Entry) → FitAsked (asked k e .error) (asked k e .n)
-asked-fits (fixedPoint a b d) e = point-fits (separation e a b d)
-asked-fits (fixedAngle q) e = rotation-fits (apart e q)
-asked-fits (hingePoint a b d) e = point-fits (separation e a b d)
+asked-fits : (k : Reads) (e : Entry) → FitAsked (asked e k .error) (asked e k .n)
+asked-fits (point a b d) e = let s = separation e a b d in (length-fits s, div-fits3 (negOf s) (lengthOf s))
+asked-fits (angle q) e = rotation-fits (rotationDifference q (e .q₁) (e .q₂))
 asked-fits (hingeAlign a b) e = rotation-fits (crossOf (turned₁ e a) (turned₂ e b))
-asked-fits (hingeLimit l a₁ b₁ b₂) e = limit-fits e (angleCorrection l (turned₁ e a₁) (turned₁ e b₁) (turned₂ e b₂) pi)
-asked-fits (slideAngle q) e = rotation-fits (apart e q)
-asked-fits (slideAlign l a b d axis) e = rotation-fits (slideCorrection l (separation e a b d) (turned₁ e axis))
-asked-fits (ballPoint a b d) e = point-fits (separation e a b d)
-asked-fits (ballSwing l a₁ a₂) e = limit-fits e (swingCorrection l (turned₁ e a₁) (turned₂ e a₂))
-asked-fits (ballTwist l a₁ a₂ b₁ b₂) e = limit-fits e (twistCorrection l (turned₁ e a₁) (turned₂ e a₂) (turned₁ e b₁) (turned₂ e b₂) (e .dt))
+asked-fits (hingeLimit o a₁ b₁ b₂) e = limit-fits e (limited o (λ l. angleCorrection l (turned₁ e a₁) (turned₁ e b₁) (turned₂ e b₂) pi))
+asked-fits (slideAlign o a b d axis) e = rotation-fits (slideCorrection o (separation e a b d) (turned₁ e axis))
+asked-fits (swing o a₁ a₂) e = limit-fits e (limited o (λ l. swingCorrection l (turned₁ e a₁) (turned₂ e a₂)))
+asked-fits (twist o a₁ a₂ b₁ b₂) e = limit-fits e (limited o (λ l. twistCorrection l (turned₁ e a₁) (turned₂ e a₂) (turned₁ e b₁) (turned₂ e b₂) (e .dt)))
 asked-fits (tether l a b d) e = distance-fits l (separation e a b d)
 
 correction-fits : (e : Entry) → FitAsked (correctionOf e .error) (correctionOf e .n)
@@ -164,40 +157,42 @@ unfolding linearMotorGiven
 slide-shape S m arm₁ arm₂ d axis b = off-shape (m .enabled) (m .«max_force») _ (S .dt) _ (lagrange-shape (m .«motor_model») (m .«max_force») _ _ _ (S .dt))
 
 -- ---- displacements fit, step by step
-applied-fit : (q : Bool) (s : Stage) → Fit (s .entry .bodies) → Fit (appliedTo q s)
+applied-fit : (q : Bool) (s : Stage) → Fit (s .bodies) → Fit (appliedTo q s)
 unfolding impulseApplied pushed pulled angularImpulseApplied turned
 applied-fit true s f = record { p₁ = add-fits3 _ _; p₂ = sub-fits3 _ _ }
 applied-fit false s f = record { p₁ = f .p₁; p₂ = f .p₂ }
 
-after-fit : (s : Stage) → Fit (s .entry .bodies) → Fit (afterOf s)
+after-fit : (s : Stage) → Fit (s .bodies) → Fit (afterOf s)
 unfolding afterOf
-after-fit s f = applied-fit (positional (s .entry .reads)) s f
+after-fit s f = applied-fit (positional (s .reads)) s f
 
 uncalled-fit : (q : Bool) (l : Slot) (r : Run) → Fit (r .bodies) → Fit (uncalled q l r .bodies)
 uncalled-fit true l r f = f
 uncalled-fit false l r f = f
 
-done-fit : (v : Bool) (l : Slot) (s : Stage) (r : Run) → Fit (s .entry .bodies) → Fit (r .bodies)
-    → Fit ((if v then record { bodies = afterOf s; totals = added l (totalChange s) (r .totals) } else uncalled (correctionOf (s .entry) .still) l r) .bodies)
+done-fit : (v : Bool) (l : Slot) (s : Stage) (r : Run) → Fit (s .bodies) → Fit (r .bodies)
+    → Fit ((if v then record { bodies = afterOf s; totals = added l (totalChange s) (r .totals) } else uncalled (correctionOf (entryOf s) .still) l r) .bodies)
 done-fit true l s r f g = after-fit s f
-done-fit false l s r f g = uncalled-fit (correctionOf (s .entry) .still) l r g
+done-fit false l s r f g = uncalled-fit (correctionOf (entryOf s) .still) l r g
 
 hinge-fit : (S : Setting) (g : MotorLagrange) (a : Vec3) (r : Run) → Fit (r .bodies) → Fit (hingeDriven S g a r .bodies)
-unfolding drivenBy angularImpulseApplied turned
+unfolding angularImpulseApplied turned
 hinge-fit S None a r f = f
 hinge-fit S (Some Δλ) a r f = record { p₁ = f .p₁; p₂ = f .p₂ }
 
 slide-fit : (S : Setting) (g : MotorLagrange) (r₁ r₂ a : Vec3) (r : Run) → Fit (r .bodies) → Fit (slideDriven S g r₁ r₂ a r .bodies)
-unfolding drivenAlong impulseApplied pushed pulled
+unfolding impulseApplied pushed pulled
 slide-fit S None r₁ r₂ a r f = f
 slide-fit S (Some Δλ) r₁ r₂ a r f = record { p₁ = add-fits3 _ _; p₂ = sub-fits3 _ _ }
 
 pub step-fit : (S : Setting) (s : Step) (r : Run) → Fit (r .bodies) → Fit (stepped S s r .bodies)
 step-fit S (compliant l k α) r f = done-fit (isCalled (stageAt S k α (r .bodies))) l (stageAt S k α (r .bodies)) r f f
-step-fit S (hingeMotor m a₁ b₁ b₂) r f = hinge-fit S (hingeGiven S m a₁ b₁ b₂ (r .bodies)) (turnOf (r .bodies .body1 .«delta_rotation») a₁) r f
+step-fit S (hingeMotor m a₁ b₁ b₂) r f =
+    either (λ (x : Run). Fit (x .bodies)) (S .motors) _ r (hinge-fit S (hingeGiven S m a₁ b₁ b₂ (r .bodies)) (turnOf (r .bodies .body1 .«delta_rotation») a₁) r f) f
 step-fit S (slideMotor m arm₁ arm₂ d axis) r f =
     let q₁ = r .bodies .body1 .«delta_rotation» in
-    slide-fit S (slideGiven S m arm₁ arm₂ d axis (r .bodies)) (turnOf q₁ arm₁) (turnOf (r .bodies .body2 .«delta_rotation») arm₂) (turnOf q₁ axis) r f
+    either (λ (x : Run). Fit (x .bodies)) (S .motors) _ r
+    (slide-fit S (slideGiven S m arm₁ arm₂ d axis (r .bodies)) (turnOf q₁ arm₁) (turnOf (r .bodies .body2 .«delta_rotation») arm₂) (turnOf q₁ axis) r f) f
 
 pub run-fit : (S : Setting) (l : List Step) (r : Run) → Fit (r .bodies) → Fit (run S l r .bodies)
 unfolding run
@@ -209,11 +204,17 @@ listed : (v : Bool) (s : Stage) → (T v → SoundStage s) → All EventSound (i
 listed true s h = (h tt, tt)
 listed false s h = tt
 
+-- a motor's push, where motors push
+pushed-sound : (v : Bool) (p : MotorPush) (x r : Run) → (Calm x → SoundPush p) → Calm (if v then x else r) → All EventSound (if v then aPush p ∷ [] else [])
+pushed-sound true p x r f h = (f h, tt)
+pushed-sound false p x r f h = tt
+
 step-sound : (S : Setting) → SettingOk S → (s : Step) → StepOk s → (r : Run) → Fit (r .bodies) → Calm (stepped S s r) → All EventSound (eventsOf S s (r .bodies))
+unfolding totalChange
 step-sound S o (compliant l k α) a r f h =
     let s = stageAt S k α (r .bodies) in
     let b = done-back (isCalled s) l s r refl h in
-    let c = correction-fits (s .entry) in
+    let c = correction-fits (entryOf s) in
     listed (isCalled s) s (λ (v : T (isCalled s)). record {
       error-fits = c .0;
       n-fits = c .1;
@@ -226,26 +227,18 @@ step-sound S o (compliant l k α) a r f h =
       q₂ = o .m₂;
     })
 step-sound S o (hingeMotor m a₁ b₁ b₂) a r f h =
-    let g = hingeGiven S m a₁ b₁ b₂ (r .bodies) in (
-      record {
-        cap-fits = a;
-        dt-held = o .dt-held;
-        shape = hinge-shape S m a₁ b₁ b₂ (r .bodies);
-        no-nan = hinge-back S g (turnOf (r .bodies .body1 .«delta_rotation») a₁) r h .1;
-      },
-      tt,
-    )
+    let g = hingeGiven S m a₁ b₁ b₂ (r .bodies) in
+    let axis = turnOf (r .bodies .body1 .«delta_rotation») a₁ in
+    pushed-sound (S .motors) (record { cap = m .«max_torque»; dt = S .dt; given = g }) (hingeDriven S g axis r) r
+    (λ (k : Calm (hingeDriven S g axis r)). record { cap-fits = a; dt-held = o .dt-held; shape = hinge-shape S m a₁ b₁ b₂ (r .bodies); no-nan = hinge-back S g axis r k .1 }) h
 step-sound S o (slideMotor m arm₁ arm₂ d axis) a r f h =
     let q₁ = r .bodies .body1 .«delta_rotation» in
-    let g = slideGiven S m arm₁ arm₂ d axis (r .bodies) in (
-      record {
-        cap-fits = a;
-        dt-held = o .dt-held;
-        shape = slide-shape S m arm₁ arm₂ d axis (r .bodies);
-        no-nan = slide-back S g (turnOf q₁ arm₁) (turnOf (r .bodies .body2 .«delta_rotation») arm₂) (turnOf q₁ axis) r h .1;
-      },
-      tt,
-    )
+    let g = slideGiven S m arm₁ arm₂ d axis (r .bodies) in
+    let r₁ = turnOf q₁ arm₁ in
+    let r₂ = turnOf (r .bodies .body2 .«delta_rotation») arm₂ in
+    let x = slideDriven S g r₁ r₂ (turnOf q₁ axis) r in
+    pushed-sound (S .motors) (record { cap = m .«max_force»; dt = S .dt; given = g }) x r
+    (λ (k : Calm x). record { cap-fits = a; dt-held = o .dt-held; shape = slide-shape S m arm₁ arm₂ d axis (r .bodies); no-nan = slide-back S g r₁ r₂ (turnOf q₁ axis) r k .1 }) h
 
 -- ---- a joint's
 pub steps-sound : (S : Setting) → SettingOk S → (l : List Step) → All StepOk l → (r : Run) → Fit (r .bodies) → Calm (run S l r) → All EventSound (events S l r)

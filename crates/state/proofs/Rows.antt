@@ -9,7 +9,7 @@ use lib.ListN.{length, getD, set, take, drop, take-append-drop, length-append, l
 use lib.Seq.{sets, take-all, drop-append-add}
 use lib.Ieee.{Float}
 use Rattle.solver_body.specs.declared.BodyState.{BodyState}
-use Rattle.xpbd_plugin.specs.declared.JointTotals.{JointTotals}
+use Rattle.xpbd_joints.specs.declared.JointTotals.{JointTotals}
 use Rattle.numbers.specs.Lists.{concat, each}
 use Rattle.numbers.specs.Numbers.{vec3In, quatIn}
 use Rattle.numbers.proofs.Rows.{each-is, each-set, each-same, map-each, concat-each, pieces-length, piece-at, part-add, numbers3-in, numbers4-in, apart, vec3-at, quat-at, vec3-past, quat-past}

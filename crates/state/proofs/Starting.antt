@@ -9,7 +9,7 @@ use lib.Ieee.{Float}
 use borrow.Author.Tests.{eq-eqb, ne-eqb}
 use Rattle.scalar.specs.Arith.{f0}
 use Rattle.solver_body.specs.declared.BodyState.{BodyState}
-use Rattle.xpbd_plugin.specs.Joint.{noTotals}
+use Rattle.xpbd_joints.specs.Steps.{noTotals}
 use Rattle.numbers.specs.Lists.{concat}
 use Rattle.numbers.proofs.Rows.{concat-last, pieces-length}
 use Rattle.numbers.proofs.Writes.{next-piece, drop-replicate}

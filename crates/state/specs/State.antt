@@ -10,8 +10,8 @@ use Rattle.scalar.specs.Scalar.{isFinite, outside}
 use Rattle.vector.specs.declared.Vec3.{Vec3}
 use Rattle.solver_body.specs.Body.{positionBound}
 use Rattle.solver_body.specs.declared.BodyState.{BodyState}
-use Rattle.xpbd_plugin.specs.Joint.{noTotals}
-use Rattle.xpbd_plugin.specs.declared.JointTotals.{JointTotals}
+use Rattle.xpbd_joints.specs.Steps.{noTotals}
+use Rattle.xpbd_joints.specs.declared.JointTotals.{JointTotals}
 use Rattle.numbers.specs.Lists.{all, concat, each}
 use Rattle.numbers.specs.Numbers.{numbers3, numbers4, vec3In, quatIn}
 use Rattle.card.specs.Card.{editionAt, Card, cardOf}

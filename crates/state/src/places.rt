@@ -9,7 +9,7 @@ use numbers::vec3_in;
 use numbers::write_quat;
 use numbers::write_vec3;
 use solver_body::BodyState;
-use xpbd_plugin::JointTotals;
+use xpbd_joints::JointTotals;
 
 pub const BODY_NUMBERS: usize = 13;
 

@@ -1,1 +1,9 @@
-pub mod WarmValue
+pub mod All
+pub mod Results
+pub mod SolverBodies
+pub mod Loading
+pub mod Turns
+pub mod Solving
+pub mod Ends
+pub mod Ticking
+pub mod Examples

@@ -1,15 +1,15 @@
 -- A moving body in a tick, but for its joints: document 01, 'One tick'. Definitions only.
-use lib.Ieee.{Float}
-use Rattle.scalar.specs.Arith.{_⊕_, _⊗_}
-use Rattle.vector.specs.Vector.{addOf, subOf, scaleOf, divOf}
-use Rattle.vector.specs.Rotation.{productOf, inverseOf, turnOf, normalized, ofScaledAxis}
+use lib.Ieee.{Float, lt}
+use Rattle.scalar.specs.Arith.{if_then_else_, _⊕_, _⊗_, f0, f2}
+use Rattle.vector.specs.Vector.{addOf, subOf, negOf, scaleOf, divOf}
+use Rattle.vector.specs.Rotation.{vectorPart, productOf, inverseOf, turnOf, normalized, ofScaledAxis}
 use Rattle.vector.specs.declared.Vec3.{Vec3}
+use Rattle.vector.specs.declared.Quat.{Quat}
 use Rattle.solver_body.specs.Body.{unlocked}
 use Rattle.solver_body.specs.declared.BodyState.{BodyState}
 use Rattle.solver_body.specs.declared.RigidBody.{RigidBody}
 use Rattle.solver_body.specs.declared.SolverBody.{SolverBody}
 use Rattle.solver_body.specs.declared.SolverBodyInertia.{SolverBodyInertia}
-use Rattle.xpbd_plugin.specs.Plugin.{angularChange}
 
 -- gravity g along y for the time h, then locked linear velocities zero; the deltas are v h and the scaled axis of ω h
 unfoldable pub integrated : SolverBody → SolverBodyInertia → Float → Float → SolverBody
@@ -19,6 +19,12 @@ integrated b i g h =
     let y = unlocked (i .«translation_y_locked») (v .y ⊕ g ⊗ h) in
     let u : Vec3 = record { x = unlocked (i .«translation_x_locked») (v .x); y = y; z = unlocked (i .«translation_z_locked») (v .z) } in
     record { «linear_velocity» = u; «angular_velocity» = ω; «delta_position» = scaleOf u h; «delta_rotation» = ofScaledAxis (scaleOf ω h) }
+
+-- ω = 2 Δq.xyz / h, negated where Δq.w < 0
+unfoldable pub angularChange : Quat → Float → Vec3
+angularChange Δq h =
+    let ω = divOf (scaleOf (vectorPart Δq) f2) h in
+    if lt (Δq .w) f0 then negOf ω else ω
 
 -- b after the joints' solve, pre before it. The rotation q is turned by its delta, over its length; the centre of mass c is moved by its delta.
 -- Velocities from positions (Müller 2020): what the joints changed is added to them

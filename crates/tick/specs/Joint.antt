@@ -1,51 +1,61 @@
--- A joint's numbers in a tick: its warm value, and what refusal 13 looks at after its solve. Definitions only.
-use mathlib.Core.Bool.{Bool, _&&_}
+-- A joint in a tick: the inertias that it gets by dominance, which is the Rust's own, and the numbers that refusal 13 looks at after its solve. Definitions only.
+use mathlib.Core.List.{List, _++_}
 use lib.Ieee.{Float}
-use Rattle.scalar.specs.Arith.{_⊘_, f0}
-use Rattle.vector.specs.Vector.{origin, divOf}
+use lib.Signed.{ltZ}
+use Rattle.scalar.specs.Arith.{if_then_else_}
 use Rattle.vector.specs.declared.Vec3.{Vec3}
 use Rattle.joints.specs.declared.Joint.{Joint}
-use Rattle.joints.specs.declared.Joint.the-variants as kind
+use Rattle.joints.specs.declared.Joint.the-variants.{Fixed, Revolute, Prismatic, Spherical, Distance}
+use Rattle.solver_body.specs.Body.{dummyInertia}
+use Rattle.solver_body.specs.declared.RigidBody.{RigidBody}
+use Rattle.solver_body.specs.declared.SolverBody.{SolverBody}
+use Rattle.solver_body.specs.declared.SolverBodyInertia.{SolverBodyInertia}
 use Rattle.xpbd.specs.declared.point_constraint.PointConstraintShared.{PointConstraintShared}
-use Rattle.xpbd_plugin.specs.Joint.{totalsOf}
-use Rattle.xpbd_plugin.specs.declared.PreparedJoint.{PreparedJoint}
-use Rattle.xpbd_plugin.specs.declared.PreparedJoint.the-variants.{Fixed, Revolute, Prismatic, Spherical, Distance}
-use Rattle.xpbd_plugin.specs.declared.JointSolved.{JointSolved}
-use Rattle.xpbd_plugin.specs.declared.JointTotals.{JointTotals}
-use Rattle.tick.specs.Finite.{finite3, finite4, bodyFinite}
+use Rattle.xpbd_joints.specs.Fixed.{fixedPrepared}
+use Rattle.xpbd_joints.specs.Distance.{distancePrepared}
+use Rattle.xpbd_joints.specs.Revolute.{revolutePrepared}
+use Rattle.xpbd_joints.specs.Prismatic.{prismaticPrepared}
+use Rattle.xpbd_joints.specs.Spherical.{sphericalPrepared}
+use Rattle.xpbd_joints.specs.Steps.{Run}
+use Rattle.numbers.specs.Numbers.{numbers3, numbers4}
+use Rattle.state.specs.State.{totalsNumbers}
+use Rattle.tick.specs.declared.joint.InertiaPair.{InertiaPair}
 
--- the last motor total / dt
-unfoldable pub warmValue : Joint → JointTotals → Float → Vec3
-warmValue (kind.Fixed j) t h = origin
-warmValue (kind.Revolute j) t h = divOf (t .fourth) h
-warmValue (kind.Prismatic j) t h = record { x = t .third .x ⊘ h; y = f0; z = f0 }
-warmValue (kind.Spherical j) t h = origin
-warmValue (kind.Distance j) t h = origin
+-- a body of higher dominance counts as fixed
+unfoldable pub dominatedOf : SolverBodyInertia → SolverBodyInertia → InertiaPair
+dominatedOf i₁ i₂ =
+    if ltZ (i₂ .dominance) (i₁ .dominance) then record { inertia1 = dummyInertia; inertia2 = i₂ }
+    else if ltZ (i₁ .dominance) (i₂ .dominance) then record { inertia1 = i₁; inertia2 = dummyInertia }
+    else record { inertia1 = i₁; inertia2 = i₂ }
 
--- ---- refusal 13 after a joint's solve
+-- ---- refusal 13
 
--- two arms, and the difference of the centres
-unfoldable pub armsFinite : Vec3 → Vec3 → Vec3 → Bool
-armsFinite r₁ r₂ d = finite3 r₁ && finite3 r₂ && finite3 d
+-- two arms and the difference of the centres
+abbrev pub armNumbers : Vec3 → Vec3 → Vec3 → List Float
+armNumbers r₁ r₂ d = numbers3 r₁ ++ numbers3 r₂ ++ numbers3 d
 
-unfoldable pub pointFinite : PointConstraintShared → Bool
-pointFinite p = armsFinite (p .«world_r1») (p .«world_r2») (p .«center_difference»)
+abbrev pub pointNumbers : PointConstraintShared → List Float
+pointNumbers p = armNumbers (p .«world_r1») (p .«world_r2») (p .«center_difference»)
 
 -- a joint's axes, two in each body
-unfoldable pub axesFinite : Vec3 → Vec3 → Vec3 → Vec3 → Bool
-axesFinite a₁ a₂ b₁ b₂ = finite3 a₁ && finite3 a₂ && finite3 b₁ && finite3 b₂
+abbrev pub axisNumbers : Vec3 → Vec3 → Vec3 → Vec3 → List Float
+axisNumbers a₁ a₂ b₁ b₂ = numbers3 a₁ ++ numbers3 a₂ ++ numbers3 b₁ ++ numbers3 b₂
 
--- the prepared numbers, but for the warm value and the totals
-unfoldable pub preparedFinite : PreparedJoint → Bool
-preparedFinite (Fixed j k) = pointFinite (k .«point_constraint») && finite4 (k .«angle_constraint» .«rotation_difference»)
-preparedFinite (Revolute j k) = pointFinite (k .«point_constraint») && axesFinite (k .a1) (k .a2) (k .b1) (k .b2)
-preparedFinite (Prismatic j k) =
-    armsFinite (k .«world_r1») (k .«world_r2») (k .«center_difference») && finite3 (k .«free_axis1») && finite4 (k .«angle_constraint» .«rotation_difference»)
-preparedFinite (Spherical j k) = pointFinite (k .«point_constraint») && axesFinite (k .«swing_axis1») (k .«swing_axis2») (k .«twist_axis1») (k .«twist_axis2»)
-preparedFinite (Distance j k) = armsFinite (k .«world_r1») (k .«world_r2») (k .«center_difference»)
+unfoldable pub preparedNumbers : Joint → RigidBody → RigidBody → List Float
+preparedNumbers (Fixed j) b₁ b₂ = let k = fixedPrepared j b₁ b₂ in pointNumbers (k .«point_constraint») ++ numbers4 (k .«angle_constraint» .«rotation_difference»)
+preparedNumbers (Revolute j) b₁ b₂ = let k = revolutePrepared j b₁ b₂ in pointNumbers (k .«point_constraint») ++ axisNumbers (k .a1) (k .a2) (k .b1) (k .b2)
+preparedNumbers (Prismatic j) b₁ b₂ =
+    let k = prismaticPrepared j b₁ b₂ in
+    armNumbers (k .«world_r1») (k .«world_r2») (k .«center_difference») ++ numbers3 (k .«free_axis1») ++ numbers4 (k .«angle_constraint» .«rotation_difference»)
+preparedNumbers (Spherical j) b₁ b₂ =
+    let k = sphericalPrepared j b₁ b₂ in
+    pointNumbers (k .«point_constraint») ++ axisNumbers (k .«swing_axis1») (k .«swing_axis2») (k .«twist_axis1») (k .«twist_axis2»)
+preparedNumbers (Distance j) b₁ b₂ = let k = distancePrepared j b₁ b₂ in armNumbers (k .«world_r1») (k .«world_r2») (k .«center_difference»)
 
-unfoldable pub totalsFinite : JointTotals → Bool
-totalsFinite t = finite3 (t .first) && finite3 (t .second) && finite3 (t .third) && finite3 (t .fourth)
+-- velocities and deltas
+abbrev pub solverNumbers : SolverBody → List Float
+solverNumbers b = numbers3 (b .«linear_velocity») ++ numbers3 (b .«angular_velocity») ++ numbers3 (b .«delta_position») ++ numbers4 (b .«delta_rotation»)
 
-unfoldable pub jointFinite : JointSolved → Bool
-jointFinite s = preparedFinite (s .joint) && totalsFinite (totalsOf (s .joint)) && bodyFinite (s .bodies .body1) && bodyFinite (s .bodies .body2)
+-- of a joint between bodies that began at b₁ and b₂: what it prepared, its totals, and both bodies
+abbrev pub lookedAt : Joint → RigidBody → RigidBody → Run → List Float
+lookedAt j b₁ b₂ r = preparedNumbers j b₁ b₂ ++ totalsNumbers (r .totals) ++ solverNumbers (r .bodies .body1) ++ solverNumbers (r .bodies .body2)

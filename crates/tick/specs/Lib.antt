@@ -1,4 +1,7 @@
-pub mod Finite
 pub mod Body
 pub mod Joint
+pub mod Tick
+pub mod Run
 pub mod Parts
+pub mod Work
+pub mod Examples

@@ -1,17 +1,27 @@
 -- What the parts of a tick hand to each other, for their own contracts: Body.antt and Joint.antt need none of it.
 use mathlib.Core.Bool.{_&&_}
 use lib.Ieee.{Float}
+use Rattle.scalar.specs.Scalar.{isFinite}
+use Rattle.vector.specs.Vector.{addOf, subOf, divOf}
+use Rattle.vector.specs.Rotation.{productOf, inverseOf}
 use Rattle.vector.specs.declared.Vec3.{Vec3}
-use Rattle.solver_body.specs.Body.{unlocked}
+use Rattle.vector.specs.declared.Quat.{Quat}
+use Rattle.joints.specs.declared.Joint.{Joint}
+use Rattle.solver_body.specs.Body.{unlocked, withVelocity}
+use Rattle.solver_body.specs.declared.RigidBody.{RigidBody}
 use Rattle.solver_body.specs.declared.SolverBody.{SolverBody}
 use Rattle.solver_body.specs.declared.SolverBodyInertia.{SolverBodyInertia}
-use Rattle.xpbd_plugin.specs.Parts.{linearProjected, angularProjected}
-use Rattle.xpbd_plugin.specs.Joint.{totalsOf}
-use Rattle.xpbd_plugin.specs.declared.JointSolved.{JointSolved}
-use Rattle.tick.specs.Finite.{bodyFinite}
-use Rattle.tick.specs.Joint.{preparedFinite, totalsFinite, jointFinite}
-use Rattle.tick.specs.declared.joint.JointKept.{JointKept}
+use Rattle.solver_body.specs.declared.BodyPair.{BodyPair}
+use Rattle.xpbd_joints.specs.Steps.{noTotals, stepsOf, Run, run, warmed}
+use Rattle.xpbd_joints.specs.Solved.{settingOf}
+use Rattle.xpbd_joints.specs.declared.JointTotals.{JointTotals}
+use Rattle.numbers.specs.Lists.{all}
+use Rattle.state.specs.State.{totalsNumbers}
+use Rattle.tick.specs.Body.{angularChange}
+use Rattle.tick.specs.Joint.{dominatedOf, preparedNumbers, solverNumbers, lookedAt}
 use Rattle.tick.specs.declared.joint.JointResult.{JointResult}
+
+-- ---- a body
 
 -- locked linear velocities are zero
 unfoldable pub unlockedVelocity : SolverBodyInertia → Vec3 → Vec3
@@ -22,22 +32,54 @@ unlockedVelocity i v =
       z = unlocked (i .«translation_z_locked») (v .z);
     }
 
+-- v + (x - x₀) / h, with x₀ as it was before the joints' solve
+unfoldable pub linearProjected : SolverBody → Vec3 → Float → SolverBody
+linearProjected b x₀ h =
+    withVelocity b (addOf (b .«linear_velocity») (divOf (subOf (b .«delta_position») x₀) h)) (b .«angular_velocity»)
+
+-- with Δq = q q₀⁻¹, and q₀ as it was before the joints' solve
+unfoldable pub angularProjected : SolverBody → Quat → Float → SolverBody
+angularProjected b q₀ h =
+    withVelocity b (b .«linear_velocity») (addOf (b .«angular_velocity») (angularChange (productOf (b .«delta_rotation») (inverseOf q₀)) h))
+
 -- velocities projected, against the deltas as they were before the joints' solve
 unfoldable pub projected : SolverBody → SolverBody → Float → SolverBody
 projected pre b h = angularProjected (linearProjected b (pre .«delta_position») h) (pre .«delta_rotation») h
 
+-- ---- a joint
+
 -- what a tick keeps of a joint's solve
-unfoldable pub resultOf : JointSolved → JointResult
-resultOf s = record { finite = jointFinite s; bodies = s .bodies; totals = totalsOf (s .joint) }
+abbrev pub resultOf : Joint → RigidBody → RigidBody → Run → JointResult
+resultOf j b₁ b₂ r = record { finite = all isFinite (lookedAt j b₁ b₂ r); bodies = r .bodies; totals = r .totals }
 
--- the same in two steps, the first by kind
-unfoldable pub keptOf : JointSolved → JointKept
-keptOf s = record { «prepared_finite» = preparedFinite (s .joint); bodies = s .bodies; totals = totalsOf (s .joint) }
+-- a joint's solve, from totals of zero
+abbrev pub runWith : Joint → RigidBody → RigidBody → BodyPair → SolverBodyInertia → SolverBodyInertia → Float → Run
+runWith j b₁ b₂ b i₁ i₂ h = run (settingOf i₁ i₂ h) (stepsOf j b₁ b₂) (record { bodies = b; totals = noTotals })
 
-unfoldable pub testedOf : JointKept → JointResult
-testedOf k =
+unfoldable pub solvedWith : Joint → RigidBody → RigidBody → BodyPair → SolverBodyInertia → SolverBodyInertia → Float → JointResult
+solvedWith j b₁ b₂ b i₁ i₂ h = resultOf j b₁ b₂ (runWith j b₁ b₂ b i₁ i₂ h)
+
+-- the same in two steps, the first by kind: only what was prepared is tested
+unfoldable pub preparedWith : Joint → RigidBody → RigidBody → BodyPair → SolverBodyInertia → SolverBodyInertia → Float → JointResult
+preparedWith j b₁ b₂ b i₁ i₂ h =
+    let r = runWith j b₁ b₂ b i₁ i₂ h in
+    record { finite = all isFinite (preparedNumbers j b₁ b₂); bodies = r .bodies; totals = r .totals }
+
+unfoldable pub testedOf : JointResult → JointResult
+testedOf r =
     record {
-      finite = k .«prepared_finite» && totalsFinite (k .totals) && bodyFinite (k .bodies .body1) && bodyFinite (k .bodies .body2);
-      bodies = k .bodies;
-      totals = k .totals;
+      finite = r .finite && all isFinite (totalsNumbers (r .totals)) && all isFinite (solverNumbers (r .bodies .body1)) && all isFinite (solverNumbers (r .bodies .body2));
+      bodies = r .bodies;
+      totals = r .totals;
     }
+
+-- its warm start, with the coefficient c
+unfoldable pub warmedWith : Joint → RigidBody → RigidBody → JointTotals → BodyPair → SolverBodyInertia → SolverBodyInertia → Float → Float → BodyPair
+warmedWith j b₁ b₂ last b i₁ i₂ c h = warmed (settingOf i₁ i₂ h) c last (stepsOf j b₁ b₂) b
+
+-- both with the inertias that the joint gets by dominance
+unfoldable pub jointWarmed : Joint → RigidBody → RigidBody → JointTotals → BodyPair → SolverBodyInertia → SolverBodyInertia → Float → Float → BodyPair
+jointWarmed j b₁ b₂ last b i₁ i₂ c h = let i = dominatedOf i₁ i₂ in warmedWith j b₁ b₂ last b (i .inertia1) (i .inertia2) c h
+
+unfoldable pub jointSolved : Joint → RigidBody → RigidBody → BodyPair → SolverBodyInertia → SolverBodyInertia → Float → JointResult
+jointSolved j b₁ b₂ b i₁ i₂ h = let i = dominatedOf i₁ i₂ in solvedWith j b₁ b₂ b (i .inertia1) (i .inertia2) h

@@ -1,7 +1,7 @@
-// A moving body in a tick, but for its joints.
+// A moving body in a tick, but for its joints. Both projections of velocities are avian's (src/dynamics/solver/xpbd/plugin.rs).
 ghost use mathlib.Core.Path.{_≡_};
-ghost use Rattle.tick.specs.Body.{integrated, finishedBody};
-ghost use Rattle.tick.specs.Parts.{unlockedVelocity, projected};
+ghost use Rattle.tick.specs.Body.{integrated, angularChange, finishedBody};
+ghost use Rattle.tick.specs.Parts.{unlockedVelocity, linearProjected, angularProjected, projected};
 use solver_body::BodyState;
 use solver_body::RigidBody;
 use solver_body::SolverBody;
@@ -9,8 +9,6 @@ use solver_body::SolverBodyInertia;
 use solver_body::unlocked;
 use vector::Quat;
 use vector::Vec3;
-use xpbd_plugin::project_angular_velocity;
-use xpbd_plugin::project_linear_velocity;
 
 fn unlocked_velocity(inertia: SolverBodyInertia, velocity: Vec3) -> Vec3
     ensures { λ r. ⌜ r ≡ unlockedVelocity inertia velocity ⌝ }
@@ -42,6 +40,41 @@ pub fn integrate(body: SolverBody, inertia: SolverBodyInertia, gravity: f32, dt:
         delta_position: linear_velocity.scale(dt),
         delta_rotation: Quat::from_scaled_axis(angular_velocity.scale(dt)),
     }
+}
+
+fn project_linear_velocity(
+    mut body: SolverBody,
+    pre_solve_delta_position: Vec3,
+    dt: f32,
+) -> SolverBody
+    ensures { λ b. ⌜ b ≡ linearProjected body «pre_solve_delta_position» dt ⌝ }
+{
+    let new_lin_vel = body.delta_position.sub(pre_solve_delta_position).div(dt);
+    body.linear_velocity = body.linear_velocity.add(new_lin_vel);
+    body
+}
+
+fn angular_change(delta_rot: Quat, dt: f32) -> Vec3
+    ensures { λ v. ⌜ v ≡ angularChange «delta_rot» dt ⌝ }
+{
+    let new_ang_vel = delta_rot.xyz().scale(2.0).div(dt);
+    if delta_rot.w < 0.0 {
+        return new_ang_vel.neg();
+    }
+    new_ang_vel
+}
+
+fn project_angular_velocity(
+    mut body: SolverBody,
+    pre_solve_delta_rotation: Quat,
+    dt: f32,
+) -> SolverBody
+    ensures { λ b. ⌜ b ≡ angularProjected body «pre_solve_delta_rotation» dt ⌝ }
+{
+    let delta_rot = body.delta_rotation
+        .mul_quat(pre_solve_delta_rotation.inverse());
+    body.angular_velocity = body.angular_velocity.add(angular_change(delta_rot, dt));
+    body
 }
 
 fn project_velocities(pre_solve: SolverBody, body: SolverBody, dt: f32) -> SolverBody

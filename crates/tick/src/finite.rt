@@ -1,27 +1,30 @@
 // Whether numbers are finite: a vector's, a rotation's, a body's.
 // Tests are joined by `&` and not by `&&`: a proof has no cases then, and where all numbers are finite each is looked at anyway.
 ghost use mathlib.Core.Path.{_≡_};
-ghost use Rattle.tick.specs.Finite.{finite3, finite4, bodyFinite};
+ghost use Rattle.scalar.specs.Scalar.{isFinite};
+ghost use Rattle.numbers.specs.Lists.{all};
+ghost use Rattle.numbers.specs.Numbers.{numbers3, numbers4};
+ghost use Rattle.tick.specs.Joint.{solverNumbers};
 use scalar::is_finite;
 use solver_body::SolverBody;
 use vector::Quat;
 use vector::Vec3;
 
 pub fn vec3_finite(v: Vec3) -> bool
-    ensures { λ r. ⌜ r ≡ finite3 v ⌝ }
+    ensures { λ r. ⌜ r ≡ all isFinite (numbers3 v) ⌝ }
 {
     is_finite(v.x) & is_finite(v.y) & is_finite(v.z)
 }
 
 pub fn quat_finite(q: Quat) -> bool
-    ensures { λ r. ⌜ r ≡ finite4 q ⌝ }
+    ensures { λ r. ⌜ r ≡ all isFinite (numbers4 q) ⌝ }
 {
     is_finite(q.x) & is_finite(q.y) & is_finite(q.z) & is_finite(q.w)
 }
 
 // Velocities and deltas.
 pub fn body_finite(b: SolverBody) -> bool
-    ensures { λ r. ⌜ r ≡ bodyFinite b ⌝ }
+    ensures { λ r. ⌜ r ≡ all isFinite (solverNumbers b) ⌝ }
 {
     vec3_finite(b.linear_velocity)
         & vec3_finite(b.angular_velocity)

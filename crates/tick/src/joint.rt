@@ -1,10 +1,12 @@
-// A joint in a tick: its warm start and its solve by kind, and whether all numbers are finite.
+// A joint in a tick: the inertias that it gets by dominance, its warm start and its solve by kind (src/dynamics/solver/xpbd/plugin.rs), and whether all numbers are finite.
 ghost use mathlib.Core.Path.{_≡_};
-ghost use Rattle.vector.specs.Vector.{origin};
+ghost use lib.Signed.{ltZ};
+ghost use Rattle.scalar.specs.Scalar.{isFinite};
 ghost use Rattle.joints.specs.declared.Joint.the-variants as kind;
-ghost use Rattle.xpbd_plugin.specs.Joint.{jointPrepared, jointWarmed, jointSolved};
-ghost use Rattle.tick.specs.Joint.{warmValue, armsFinite, pointFinite, axesFinite, totalsFinite};
-ghost use Rattle.tick.specs.Parts.{resultOf, keptOf, testedOf};
+ghost use Rattle.numbers.specs.Lists.{all};
+ghost use Rattle.state.specs.State.{totalsNumbers};
+ghost use Rattle.tick.specs.Joint.{dominatedOf, armNumbers, pointNumbers, axisNumbers};
+ghost use Rattle.tick.specs.Parts.{preparedWith, testedOf, warmedWith, jointWarmed, jointSolved};
 use crate::finite::body_finite;
 use crate::finite::quat_finite;
 use crate::finite::vec3_finite;
@@ -19,50 +21,62 @@ use solver_body::RigidBody;
 use solver_body::SolverBodyInertia;
 use vector::Vec3;
 use xpbd::point_constraint::PointConstraintShared;
+use xpbd_joints::JointTotals;
 use xpbd_joints::distance;
 use xpbd_joints::fixed;
 use xpbd_joints::prismatic;
 use xpbd_joints::revolute;
 use xpbd_joints::spherical;
-use xpbd_plugin::JointTotals;
 
-// The last motor total over dt; a prismatic joint's is its x.
-pub fn warm_value(joint: Joint, totals: JointTotals, dt: f32) -> Vec3
-    ensures { λ r. ⌜ r ≡ warmValue joint totals dt ⌝ }
+pub struct InertiaPair {
+    pub inertia1: SolverBodyInertia,
+    pub inertia2: SolverBodyInertia,
+}
+
+fn above(a: i16, b: i16) -> bool
+    ensures { λ r. ⌜ r ≡ ltZ b a ⌝ }
 {
-    match joint {
-        Joint::Fixed(_) => Vec3::ZERO,
-        Joint::Revolute(_) => totals.fourth.div(dt),
-        Joint::Prismatic(_) => Vec3 {
-            x: totals.third.x / dt,
-            y: 0.0,
-            z: 0.0,
-        },
-        Joint::Spherical(_) => Vec3::ZERO,
-        Joint::Distance(_) => Vec3::ZERO,
+    a > b
+}
+
+pub fn dominated(inertia1: SolverBodyInertia, inertia2: SolverBodyInertia) -> InertiaPair
+    ensures { λ r. ⌜ r ≡ dominatedOf inertia1 inertia2 ⌝ }
+{
+    if above(inertia1.dominance, inertia2.dominance) {
+        return InertiaPair {
+            inertia1: SolverBodyInertia::DUMMY,
+            inertia2,
+        };
     }
+    if above(inertia2.dominance, inertia1.dominance) {
+        return InertiaPair {
+            inertia1,
+            inertia2: SolverBodyInertia::DUMMY,
+        };
+    }
+    InertiaPair { inertia1, inertia2 }
 }
 
 fn arms_finite(world_r1: Vec3, world_r2: Vec3, center_difference: Vec3) -> bool
-    ensures { λ r. ⌜ r ≡ armsFinite «world_r1» «world_r2» «center_difference» ⌝ }
+    ensures { λ r. ⌜ r ≡ all isFinite (armNumbers «world_r1» «world_r2» «center_difference») ⌝ }
 {
     vec3_finite(world_r1) & vec3_finite(world_r2) & vec3_finite(center_difference)
 }
 
 fn point_finite(point: PointConstraintShared) -> bool
-    ensures { λ r. ⌜ r ≡ pointFinite point ⌝ }
+    ensures { λ r. ⌜ r ≡ all isFinite (pointNumbers point) ⌝ }
 {
     arms_finite(point.world_r1, point.world_r2, point.center_difference)
 }
 
 fn axes_finite(a1: Vec3, a2: Vec3, b1: Vec3, b2: Vec3) -> bool
-    ensures { λ r. ⌜ r ≡ axesFinite a1 a2 b1 b2 ⌝ }
+    ensures { λ r. ⌜ r ≡ all isFinite (axisNumbers a1 a2 b1 b2) ⌝ }
 {
     vec3_finite(a1) & vec3_finite(a2) & vec3_finite(b1) & vec3_finite(b2)
 }
 
 fn totals_finite(totals: JointTotals) -> bool
-    ensures { λ r. ⌜ r ≡ totalsFinite totals ⌝ }
+    ensures { λ r. ⌜ r ≡ all isFinite (totalsNumbers totals) ⌝ }
 {
     vec3_finite(totals.first)
         & vec3_finite(totals.second)
@@ -70,10 +84,9 @@ fn totals_finite(totals: JointTotals) -> bool
         & vec3_finite(totals.fourth)
 }
 
-// What a tick keeps of a joint's solve, before the test of the totals and the bodies.
-pub struct JointKept {
-    // The prepared numbers, but for the warm value and the totals.
-    pub prepared_finite: bool,
+// What a tick keeps of a joint's solve.
+pub struct JointResult {
+    pub finite: bool,
     pub bodies: BodyPair,
     pub totals: JointTotals,
 }
@@ -86,8 +99,8 @@ fn solve_fixed(
     inertia1: SolverBodyInertia,
     inertia2: SolverBodyInertia,
     dt: f32,
-) -> JointKept
-    ensures { λ r. ⌜ r ≡ keptOf (jointSolved (jointPrepared (kind.Fixed joint) body1 body2 origin) bodies inertia1 inertia2 dt) ⌝ }
+) -> JointResult
+    ensures { λ r. ⌜ r ≡ preparedWith (kind.Fixed joint) body1 body2 bodies inertia1 inertia2 dt ⌝ }
 {
     let prepared = fixed::prepare(joint, body1, body2);
     let solved = fixed::solve(joint, prepared, bodies, inertia1, inertia2, dt);
@@ -95,9 +108,9 @@ fn solve_fixed(
     let moved = solved.bodies;
     let first = data.point_constraint.total_lagrange;
     let second = data.angle_constraint.total_lagrange;
-    JointKept {
-        prepared_finite: point_finite(data.point_constraint)
-            & quat_finite(data.angle_constraint.rotation_difference),
+    JointResult {
+        finite: point_finite(prepared.point_constraint)
+            & quat_finite(prepared.angle_constraint.rotation_difference),
         bodies: moved,
         totals: JointTotals {
             first,
@@ -116,10 +129,10 @@ fn solve_revolute(
     inertia1: SolverBodyInertia,
     inertia2: SolverBodyInertia,
     dt: f32,
-) -> JointKept
-    ensures { λ r. ⌜ r ≡ keptOf (jointSolved (jointPrepared (kind.Revolute joint) body1 body2 origin) bodies inertia1 inertia2 dt) ⌝ }
+) -> JointResult
+    ensures { λ r. ⌜ r ≡ preparedWith (kind.Revolute joint) body1 body2 bodies inertia1 inertia2 dt ⌝ }
 {
-    let prepared = revolute::prepare(joint, body1, body2, Vec3::ZERO);
+    let prepared = revolute::prepare(joint, body1, body2);
     let solved = revolute::solve(joint, prepared, bodies, inertia1, inertia2, dt);
     let data = solved.solver_data;
     let moved = solved.bodies;
@@ -127,9 +140,9 @@ fn solve_revolute(
     let second = data.total_align_lagrange;
     let third = data.total_limit_lagrange;
     let fourth = data.total_motor_lagrange;
-    JointKept {
-        prepared_finite: point_finite(data.point_constraint)
-            & axes_finite(data.a1, data.a2, data.b1, data.b2),
+    JointResult {
+        finite: point_finite(prepared.point_constraint)
+            & axes_finite(prepared.a1, prepared.a2, prepared.b1, prepared.b2),
         bodies: moved,
         totals: JointTotals {
             first,
@@ -148,19 +161,23 @@ fn solve_prismatic(
     inertia1: SolverBodyInertia,
     inertia2: SolverBodyInertia,
     dt: f32,
-) -> JointKept
-    ensures { λ r. ⌜ r ≡ keptOf (jointSolved (jointPrepared (kind.Prismatic joint) body1 body2 origin) bodies inertia1 inertia2 dt) ⌝ }
+) -> JointResult
+    ensures { λ r. ⌜ r ≡ preparedWith (kind.Prismatic joint) body1 body2 bodies inertia1 inertia2 dt ⌝ }
 {
-    let prepared = prismatic::prepare(joint, body1, body2, 0.0);
+    let prepared = prismatic::prepare(joint, body1, body2);
     let solved = prismatic::solve(joint, prepared, bodies, inertia1, inertia2, dt);
     let data = solved.solver_data;
     let moved = solved.bodies;
     let first = data.total_position_lagrange;
     let second = data.angle_constraint.total_lagrange;
-    JointKept {
-        prepared_finite: arms_finite(data.world_r1, data.world_r2, data.center_difference)
-            & vec3_finite(data.free_axis1)
-            & quat_finite(data.angle_constraint.rotation_difference),
+    JointResult {
+        finite: arms_finite(
+            prepared.world_r1,
+            prepared.world_r2,
+            prepared.center_difference,
+        )
+            & vec3_finite(prepared.free_axis1)
+            & quat_finite(prepared.angle_constraint.rotation_difference),
         bodies: moved,
         totals: JointTotals {
             first,
@@ -183,8 +200,8 @@ fn solve_spherical(
     inertia1: SolverBodyInertia,
     inertia2: SolverBodyInertia,
     dt: f32,
-) -> JointKept
-    ensures { λ r. ⌜ r ≡ keptOf (jointSolved (jointPrepared (kind.Spherical joint) body1 body2 origin) bodies inertia1 inertia2 dt) ⌝ }
+) -> JointResult
+    ensures { λ r. ⌜ r ≡ preparedWith (kind.Spherical joint) body1 body2 bodies inertia1 inertia2 dt ⌝ }
 {
     let prepared = spherical::prepare(joint, body1, body2);
     let solved = spherical::solve(joint, prepared, bodies, inertia1, inertia2, dt);
@@ -193,13 +210,13 @@ fn solve_spherical(
     let first = data.point_constraint.total_lagrange;
     let second = data.total_swing_lagrange;
     let third = data.total_twist_lagrange;
-    JointKept {
-        prepared_finite: point_finite(data.point_constraint)
+    JointResult {
+        finite: point_finite(prepared.point_constraint)
             & axes_finite(
-                data.swing_axis1,
-                data.swing_axis2,
-                data.twist_axis1,
-                data.twist_axis2,
+                prepared.swing_axis1,
+                prepared.swing_axis2,
+                prepared.twist_axis1,
+                prepared.twist_axis2,
             ),
         bodies: moved,
         totals: JointTotals {
@@ -219,16 +236,20 @@ fn solve_distance(
     inertia1: SolverBodyInertia,
     inertia2: SolverBodyInertia,
     dt: f32,
-) -> JointKept
-    ensures { λ r. ⌜ r ≡ keptOf (jointSolved (jointPrepared (kind.Distance joint) body1 body2 origin) bodies inertia1 inertia2 dt) ⌝ }
+) -> JointResult
+    ensures { λ r. ⌜ r ≡ preparedWith (kind.Distance joint) body1 body2 bodies inertia1 inertia2 dt ⌝ }
 {
     let prepared = distance::prepare(joint, body1, body2);
     let solved = distance::solve(joint, prepared, bodies, inertia1, inertia2, dt);
     let data = solved.solver_data;
     let moved = solved.bodies;
     let first = data.total_lagrange;
-    JointKept {
-        prepared_finite: arms_finite(data.world_r1, data.world_r2, data.center_difference),
+    JointResult {
+        finite: arms_finite(
+            prepared.world_r1,
+            prepared.world_r2,
+            prepared.center_difference,
+        ),
         bodies: moved,
         totals: JointTotals {
             first,
@@ -239,6 +260,7 @@ fn solve_distance(
     }
 }
 
+// Of the numbers that refusal 13 looks at, only the prepared ones are tested by kind.
 fn solve_by_kind(
     joint: Joint,
     body1: RigidBody,
@@ -247,8 +269,8 @@ fn solve_by_kind(
     inertia1: SolverBodyInertia,
     inertia2: SolverBodyInertia,
     dt: f32,
-) -> JointKept
-    ensures { λ r. ⌜ r ≡ keptOf (jointSolved (jointPrepared joint body1 body2 origin) bodies inertia1 inertia2 dt) ⌝ }
+) -> JointResult
+    ensures { λ r. ⌜ r ≡ preparedWith joint body1 body2 bodies inertia1 inertia2 dt ⌝ }
 {
     match joint {
         Joint::Fixed(fixed) => solve_fixed(fixed, body1, body2, bodies, inertia1, inertia2, dt),
@@ -291,21 +313,14 @@ fn solve_by_kind(
     }
 }
 
-// What a tick keeps of a joint's solve.
-pub struct JointResult {
-    pub finite: bool,
-    pub bodies: BodyPair,
-    pub totals: JointTotals,
-}
-
-// What refusal 13 asks after a joint's solve.
-fn tested(kept: JointKept) -> JointResult
-    ensures { λ r. ⌜ r ≡ testedOf kept ⌝ }
+// With the test of the totals and the bodies.
+fn tested(solved: JointResult) -> JointResult
+    ensures { λ r. ⌜ r ≡ testedOf solved ⌝ }
 {
-    let bodies = kept.bodies;
-    let totals = kept.totals;
+    let bodies = solved.bodies;
+    let totals = solved.totals;
     JointResult {
-        finite: kept.prepared_finite
+        finite: solved.finite
             & totals_finite(totals)
             & body_finite(bodies.body1)
             & body_finite(bodies.body2),
@@ -314,7 +329,72 @@ fn tested(kept: JointKept) -> JointResult
     }
 }
 
-// The solve reads no warm value: zero stands in for it.
+fn warm_start_by_kind(
+    joint: Joint,
+    body1: RigidBody,
+    body2: RigidBody,
+    last: JointTotals,
+    bodies: BodyPair,
+    inertia1: SolverBodyInertia,
+    inertia2: SolverBodyInertia,
+    warm_start_coefficient: f32,
+    dt: f32,
+) -> BodyPair
+    ensures { λ r. ⌜ r ≡ warmedWith joint body1 body2 last bodies inertia1 inertia2 «warm_start_coefficient» dt ⌝ }
+{
+    match joint {
+        Joint::Fixed(_) => bodies,
+        Joint::Revolute(revolute) => revolute::warm_start_motors(
+            revolute,
+            bodies,
+            inertia1,
+            inertia2,
+            last.fourth.div(dt),
+            warm_start_coefficient,
+        ),
+        Joint::Prismatic(prismatic) => prismatic::warm_start_motors(
+            prismatic,
+            body1,
+            body2,
+            bodies,
+            inertia1,
+            inertia2,
+            last.third.x / dt,
+            warm_start_coefficient,
+        ),
+        Joint::Spherical(_) => bodies,
+        Joint::Distance(_) => bodies,
+    }
+}
+
+// The totals are those of the last tick.
+pub fn warm_start_joint(
+    joint: Joint,
+    body1: RigidBody,
+    body2: RigidBody,
+    last: JointTotals,
+    bodies: BodyPair,
+    inertia1: SolverBodyInertia,
+    inertia2: SolverBodyInertia,
+    warm_start_coefficient: f32,
+    dt: f32,
+) -> BodyPair
+    ensures { λ r. ⌜ r ≡ jointWarmed joint body1 body2 last bodies inertia1 inertia2 «warm_start_coefficient» dt ⌝ }
+{
+    let i = dominated(inertia1, inertia2);
+    warm_start_by_kind(
+        joint,
+        body1,
+        body2,
+        last,
+        bodies,
+        i.inertia1,
+        i.inertia2,
+        warm_start_coefficient,
+        dt,
+    )
+}
+
 pub fn solve_joint(
     joint: Joint,
     body1: RigidBody,
@@ -324,44 +404,8 @@ pub fn solve_joint(
     inertia2: SolverBodyInertia,
     dt: f32,
 ) -> JointResult
-    ensures { λ r. ⌜ r ≡ resultOf (jointSolved (jointPrepared joint body1 body2 origin) bodies inertia1 inertia2 dt) ⌝ }
+    ensures { λ r. ⌜ r ≡ jointSolved joint body1 body2 bodies inertia1 inertia2 dt ⌝ }
 {
-    tested(solve_by_kind(joint, body1, body2, bodies, inertia1, inertia2, dt))
-}
-
-pub fn warm_start_joint(
-    joint: Joint,
-    body1: RigidBody,
-    body2: RigidBody,
-    warm_value: Vec3,
-    bodies: BodyPair,
-    inertia1: SolverBodyInertia,
-    inertia2: SolverBodyInertia,
-    warm_start_coefficient: f32,
-) -> BodyPair
-    ensures { λ r. ⌜ r ≡ jointWarmed (jointPrepared joint body1 body2 «warm_value») bodies inertia1 inertia2 «warm_start_coefficient» ⌝ }
-{
-    match joint {
-        Joint::Fixed(_) => bodies,
-        Joint::Revolute(revolute) => revolute::warm_started_bodies(
-            revolute,
-            warm_value,
-            bodies,
-            inertia1,
-            inertia2,
-            warm_start_coefficient,
-        ),
-        Joint::Prismatic(prismatic) => prismatic::warm_started_bodies(
-            prismatic,
-            body1,
-            body2,
-            warm_value.x,
-            bodies,
-            inertia1,
-            inertia2,
-            warm_start_coefficient,
-        ),
-        Joint::Spherical(_) => bodies,
-        Joint::Distance(_) => bodies,
-    }
+    let i = dominated(inertia1, inertia2);
+    tested(solve_by_kind(joint, body1, body2, bodies, i.inertia1, i.inertia2, dt))
 }

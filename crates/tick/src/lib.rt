@@ -1,4 +1,8 @@
-// The parts of a tick that read neither card nor state: a moving body's step, a joint's warm start and solve by kind, the tests of refusal 13 (document 01, 'One tick').
+// Ticks of a card: the public calls `tick` and `run`, and below them a tick's steps over all bodies or joints of a linkage, one joint and one body.
 pub mod body;
 pub mod finite;
 pub mod joint;
+mod linked;
+pub mod run;
+mod steps;
+mod work;

@@ -1,7 +1,6 @@
--- An angular correction: Müller 2020, equations (11) to (16), with the Rust's sign of the impulse, whole turn and bound of 2^-23. Definitions only.
-use lib.Ieee.{Float, neg, le}
-use Rattle.scalar.specs.Arith.{if_then_else_, f0, epsilon}
-use Rattle.vector.specs.Vector.{origin, negOf, scaleOf, divOf, dotOf, lengthOf}
+-- An angular correction: Müller 2020, equations (11) to (16), with the Rust's whole turn. Definitions only.
+use lib.Ieee.{Float}
+use Rattle.vector.specs.Vector.{negOf, dotOf}
 use Rattle.vector.specs.Rotation.{productOf, ofScaledAxis}
 use Rattle.vector.specs.Matrix.{tensorTimes}
 use Rattle.vector.specs.declared.Vec3.{Vec3}
@@ -10,8 +9,6 @@ use Rattle.vector.specs.declared.SymmetricTensor.{SymmetricTensor}
 use Rattle.solver_body.specs.Body.{withDelta}
 use Rattle.solver_body.specs.declared.SolverBody.{SolverBody}
 use Rattle.solver_body.specs.declared.BodyPair.{BodyPair}
-use Rattle.xpbd.specs.Multiplier.{lagrangeUpdate}
-use Rattle.xpbd.specs.declared.angular_constraint.Corrected.{Corrected}
 
 -- (11), (12): w = n · I⁻¹ n
 unfoldable pub angularInverseMass : SymmetricTensor → Vec3 → Float
@@ -27,13 +24,3 @@ turned b I p = withDelta b (b .«delta_position») (productOf (angularDeltaRot I
 -- (15), (16): the first body is turned by p, the second by -p
 unfoldable pub angularImpulseApplied : BodyPair → SymmetricTensor → SymmetricTensor → Vec3 → BodyPair
 angularImpulseApplied b I₁ I₂ p = record { body1 = turned (b .body1) I₁ p; body2 = turned (b .body2) I₂ (negOf p) }
-
--- (11) to (16): the correction of the rotation d, whose length is the error and whose direction is the axis n; the impulse is -Δλ n
-unfoldable pub aligned : BodyPair → SymmetricTensor → SymmetricTensor → Vec3 → Float → Float → Corrected
-aligned b I₁ I₂ d α h =
-    let θ = lengthOf d in
-    let n = divOf d θ in
-    let Δλ = lagrangeUpdate f0 θ (angularInverseMass I₁ n) (angularInverseMass I₂ n) α h in
-    if le θ epsilon
-    then record { bodies = b; lagrange = origin }
-    else record { bodies = angularImpulseApplied b I₁ I₂ (scaleOf n (neg Δλ)); lagrange = scaleOf n Δλ }

@@ -1,7 +1,7 @@
 -- A positional correction: Müller 2020, equations (2) to (9), with the Rust's mass for each axis and whole turn. What is prepared of the anchors, and their separation from it, are the Rust's form. Definitions only.
 use lib.Ieee.{Float}
-use Rattle.scalar.specs.Arith.{_⊕_, f0}
-use Rattle.vector.specs.Vector.{addOf, subOf, negOf, scaleOf, timesOf, dotOf, crossOf, maxElement}
+use Rattle.scalar.specs.Arith.{_⊕_}
+use Rattle.vector.specs.Vector.{addOf, subOf, negOf, timesOf, dotOf, crossOf, maxElement}
 use Rattle.vector.specs.Rotation.{productOf, turnOf, ofScaledAxis}
 use Rattle.vector.specs.Matrix.{tensorTimes}
 use Rattle.vector.specs.declared.Vec3.{Vec3}
@@ -12,8 +12,6 @@ use Rattle.solver_body.specs.declared.RigidBody.{RigidBody}
 use Rattle.solver_body.specs.declared.SolverBody.{SolverBody}
 use Rattle.solver_body.specs.declared.SolverBodyInertia.{SolverBodyInertia}
 use Rattle.solver_body.specs.declared.BodyPair.{BodyPair}
-use Rattle.xpbd.specs.Multiplier.{lagrangeUpdate}
-use Rattle.xpbd.specs.declared.angular_constraint.Corrected.{Corrected}
 
 -- (2), (3): w = m⁻¹ + (r × n) · I⁻¹ (r × n)
 unfoldable pub generalizedInverseMass : Float → SymmetricTensor → Vec3 → Vec3 → Float
@@ -45,16 +43,6 @@ impulseApplied b i₁ i₂ p r₁ r₂ =
 unfoldable pub weight : SolverBodyInertia → Vec3 → Vec3 → Float
 weight i r n = generalizedInverseMass (maxElement (effectiveInvMass i)) (i .«inv_angular_inertia») r n
 
--- (2) to (4): the impulse p = Δλ n that corrects the error c along n at the arms r₁ and r₂
-unfoldable pub correctionImpulse : SolverBodyInertia → SolverBodyInertia → Vec3 → Vec3 → Vec3 → Float → Float → Float → Vec3
-correctionImpulse i₁ i₂ r₁ r₂ n c α h = scaleOf n (lagrangeUpdate f0 c (weight i₁ r₁ n) (weight i₂ r₂ n) α h)
-
--- (2) to (9): the bodies after it, and the impulse
-unfoldable pub positionCorrected : BodyPair → SolverBodyInertia → SolverBodyInertia → Vec3 → Vec3 → Vec3 → Float → Float → Float → Corrected
-positionCorrected b i₁ i₂ r₁ r₂ n c α h =
-    let p = correctionImpulse i₁ i₂ r₁ r₂ n c α h in
-    record { bodies = impulseApplied b i₁ i₂ p r₁ r₂; lagrange = p }
-
 -- from a body's centre of mass to an anchor, in world axes
 unfoldable pub anchorArm : RigidBody → Vec3 → Vec3
 anchorArm b anchor = turnOf (b .rotation) (subOf anchor (b .«center_of_mass»))
@@ -64,6 +52,6 @@ unfoldable pub centerDifference : RigidBody → RigidBody → Vec3
 centerDifference b₁ b₂ =
     addOf (subOf (b₂ .position) (b₁ .position)) (subOf (turnOf (b₂ .rotation) (b₂ .«center_of_mass»)) (turnOf (b₁ .rotation) (b₁ .«center_of_mass»)))
 
--- from the first anchor to the second: the bodies' arms r₁ and r₂, and d between their centres at the start
-unfoldable pub separationOf : BodyPair → Vec3 → Vec3 → Vec3 → Vec3
-separationOf b r₁ r₂ d = addOf (addOf (subOf (b .body2 .«delta_position») (b .body1 .«delta_position»)) (subOf r₂ r₁)) d
+-- from the first anchor to the second: the bodies' displacements x₁ and x₂ and arms r₁ and r₂, and d between their centres at the start
+unfoldable pub separationOf : Vec3 → Vec3 → Vec3 → Vec3 → Vec3 → Vec3
+separationOf x₁ x₂ r₁ r₂ d = addOf (addOf (subOf x₂ x₁) (subOf r₂ r₁)) d

@@ -9,8 +9,8 @@ use vector::Vec3;
 ghost use mathlib.Core.Path.{_≡_};
 ghost use lib.Ieee.{neg};
 ghost use Rattle.vector.specs.Vector.{negOf, scaleOf};
-ghost use Rattle.xpbd.specs.Parts.{pair};
-ghost use Rattle.xpbd.specs.Angular.{angularInverseMass, angularDeltaRot, turned, angularImpulseApplied, aligned};
+ghost use Rattle.xpbd.specs.Parts.{pair, aligned};
+ghost use Rattle.xpbd.specs.Angular.{angularInverseMass, angularDeltaRot, turned, angularImpulseApplied};
 
 // Both bodies after a correction, and what it adds to the constraint's total.
 pub struct Corrected {

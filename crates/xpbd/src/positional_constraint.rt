@@ -11,7 +11,8 @@ ghost use mathlib.Core.Path.{_≡_};
 ghost use Rattle.vector.specs.Vector.{addOf, subOf};
 ghost use Rattle.vector.specs.Rotation.{turnOf};
 ghost use Rattle.solver_body.specs.Body.{effectiveInvMass};
-ghost use Rattle.xpbd.specs.Positional.{generalizedInverseMass, deltaRot, pushed, pulled, impulseApplied, weight, correctionImpulse, anchorArm, separationOf};
+ghost use Rattle.xpbd.specs.Positional.{generalizedInverseMass, deltaRot, pushed, pulled, impulseApplied, weight, anchorArm, separationOf};
+ghost use Rattle.xpbd.specs.Parts.{correctionImpulse};
 ghost use Rattle.xpbd.specs.Parts.{pair};
 
 pub fn compute_generalized_inverse_mass(
@@ -139,7 +140,7 @@ pub fn center_difference(body1: RigidBody, body2: RigidBody, center1: Vec3, cent
 
 // From the first anchor to the second.
 pub fn separation(bodies: BodyPair, world_r1: Vec3, world_r2: Vec3, center_difference: Vec3) -> Vec3
-    ensures { λ v. ⌜ v ≡ separationOf bodies «world_r1» «world_r2» «center_difference» ⌝ }
+    ensures { λ v. ⌜ v ≡ separationOf (bodies .body1 .«delta_position») (bodies .body2 .«delta_position») «world_r1» «world_r2» «center_difference» ⌝ }
 {
     bodies
         .body2

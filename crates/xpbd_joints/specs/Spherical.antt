@@ -1,4 +1,4 @@
--- A spherical joint: its point, the limit of its swing, then that of its twist (Müller 2020, equations (22) to (24), with the swing axes for a and the twist axes for b). Definitions only.
+-- What a spherical joint prepares, in the Rust's form, and the corrections of its swing and its twist: Müller 2020, equations (22) to (24), with the swing axes for a, the twist axes for b and the longest correction of the Rust's own. Definitions only.
 use lib.Ieee.{Float, neg, lt, le}
 use Rattle.scalar.specs.Arith.{if_then_else_, _⊗_, half, f2, epsilon, pi}
 use Rattle.vector.specs.Vector.{origin, addOf, subOf, scaleOf, divOf, dotOf, crossOf, lengthOf, anyOrthonormal}
@@ -6,24 +6,15 @@ use Rattle.vector.specs.Rotation.{turnOf}
 use Rattle.vector.specs.Matrix.{ofQuat, matrixTimes}
 use Rattle.vector.specs.declared.Vec3.{Vec3}
 use Rattle.vector.specs.declared.Mat3.{Mat3}
-use Rattle.vector.specs.declared.SymmetricTensor.{SymmetricTensor}
 use Rattle.joints.specs.Limit.{angleCorrection}
 use Rattle.joints.specs.declared.AngleLimit.{AngleLimit}
-use Rattle.joints.specs.declared.AngleLimitOption.{AngleLimitOption}
-use Rattle.joints.specs.declared.AngleLimitOption.the-variants.{Unlimited, Limited}
 use Rattle.joints.specs.declared.AngleCorrection.{AngleCorrection}
 use Rattle.joints.specs.declared.AngleCorrection.the-variants.{None}
 use Rattle.joints.specs.declared.spherical.SphericalJoint.{SphericalJoint}
 use Rattle.solver_body.specs.declared.RigidBody.{RigidBody}
-use Rattle.solver_body.specs.declared.SolverBodyInertia.{SolverBodyInertia}
-use Rattle.solver_body.specs.declared.BodyPair.{BodyPair}
 use Rattle.xpbd.specs.Positional.{centerDifference}
-use Rattle.xpbd.specs.Point.{pointSolved}
 use Rattle.xpbd.specs.declared.point_constraint.PointConstraintShared.{PointConstraintShared}
-use Rattle.xpbd_joints.specs.Stage.{unchanged, limitStage}
-use Rattle.xpbd_joints.specs.declared.StageSolved.{StageSolved}
 use Rattle.xpbd_joints.specs.declared.spherical.SphericalJointSolverData.{SphericalJointSolverData}
-use Rattle.xpbd_joints.specs.declared.spherical.SphericalSolved.{SphericalSolved}
 
 -- the arms are turned by the matrices M₁ and M₂
 unfoldable pub matrixPoint : RigidBody → RigidBody → Mat3 → Mat3 → Vec3 → Vec3 → PointConstraintShared
@@ -56,11 +47,6 @@ swingCorrection l a₁ a₂ =
     let n = crossOf a₁ a₂ in
     if le (lengthOf n) epsilon then None else angleCorrection l (divOf n (lengthOf n)) a₁ a₂ pi
 
-unfoldable pub swingStage : AngleLimitOption → BodyPair → SymmetricTensor → SymmetricTensor → Vec3 → Vec3 → Vec3 → Float → Float → StageSolved
-swingStage Unlimited b I₁ I₂ a₁ a₂ total α h = unchanged b total
-swingStage (Limited l) b I₁ I₂ a₁ a₂ total α h =
-    limitStage (swingCorrection l (turnOf (b .body1 .«delta_rotation») a₁) (turnOf (b .body2 .«delta_rotation») a₂)) b I₁ I₂ total α h
-
 -- (23), (24): b - (n · b) n
 unfoldable pub perpendicular : Vec3 → Vec3 → Vec3
 perpendicular b n = subOf b (scaleOf n (dotOf n b))
@@ -80,33 +66,3 @@ twistCorrection l a₁ a₂ b₁ b₂ h =
     else if le (lengthOf n₁) epsilon then None
     else if le (lengthOf n₂) epsilon then None
     else angleCorrection l n (divOf n₁ (lengthOf n₁)) (divOf n₂ (lengthOf n₂)) (maxTwist (dotOf a₁ a₂) h)
-
-unfoldable pub twistStage : AngleLimitOption → BodyPair → SymmetricTensor → SymmetricTensor → Vec3 → Vec3 → Vec3 → Vec3 → Vec3 → Float → Float → StageSolved
-twistStage Unlimited b I₁ I₂ a₁ a₂ b₁ b₂ total α h = unchanged b total
-twistStage (Limited l) b I₁ I₂ a₁ a₂ b₁ b₂ total α h =
-    let q₁ = b .body1 .«delta_rotation» in
-    let q₂ = b .body2 .«delta_rotation» in
-    limitStage (twistCorrection l (turnOf q₁ a₁) (turnOf q₂ a₂) (turnOf q₁ b₁) (turnOf q₂ b₂) h) b I₁ I₂ total α h
-
-unfoldable pub sphericalSolved : SphericalJoint → SphericalJointSolverData → BodyPair → SolverBodyInertia → SolverBodyInertia → Float → SphericalSolved
-sphericalSolved j k b i₁ i₂ h =
-    let I₁ = i₁ .«inv_angular_inertia» in
-    let I₂ = i₂ .«inv_angular_inertia» in
-    let point = pointSolved (k .«point_constraint») b i₁ i₂ (j .«point_compliance») h in
-    let swing = swingStage (j .«swing_limit») (point .bodies) I₁ I₂ (k .«swing_axis1») (k .«swing_axis2») (k .«total_swing_lagrange») (j .«swing_compliance») h in
-    let twist =
-    twistStage (j .«twist_limit») (swing .bodies) I₁ I₂ (k .«swing_axis1») (k .«swing_axis2») (k .«twist_axis1») (k .«twist_axis2»)
-    (k .«total_twist_lagrange») (j .«twist_compliance») h in
-    record {
-      «solver_data» =
-          record {
-            «point_constraint» = point .constraint;
-            «swing_axis1» = k .«swing_axis1»;
-            «swing_axis2» = k .«swing_axis2»;
-            «twist_axis1» = k .«twist_axis1»;
-            «twist_axis2» = k .«twist_axis2»;
-            «total_swing_lagrange» = swing .«total_lagrange»;
-            «total_twist_lagrange» = twist .«total_lagrange»;
-          };
-      bodies = twist .bodies;
-    }

@@ -20,7 +20,8 @@ use xpbd::positional_constraint::positional_impulse;
 use xpbd::positional_constraint::separation;
 use xpbd::positional_constraint::weight;
 ghost use mathlib.Core.Path.{_≡_};
-ghost use Rattle.xpbd_joints.specs.Prismatic.{prismaticPrepared, pushedBy, prismaticWarmStarted, drivenAlong, linearMotorStage, freeAxisCorrection, slideCorrection, positionStage, prismaticSolved};
+ghost use Rattle.xpbd_joints.specs.Prismatic.{prismaticPrepared, pushedBy, freeAxisCorrection, slideCorrection};
+ghost use Rattle.xpbd_joints.specs.Solved.{prismaticWarmStarted, drivenAlong, linearMotorStage, positionStage, prismaticSolved};
 
 pub struct PrismaticJointSolverData {
     pub world_r1: Vec3,
@@ -30,8 +31,6 @@ pub struct PrismaticJointSolverData {
     pub total_position_lagrange: Vec3,
     pub angle_constraint: FixedAngleConstraintShared,
     pub total_motor_lagrange: f32,
-    // The motor's total of the last step over dt.
-    pub warm_start_motor_lagrange: f32,
 }
 
 pub struct PrismaticSolved {
@@ -50,9 +49,8 @@ pub fn prepare(
     joint: PrismaticJoint,
     body1: RigidBody,
     body2: RigidBody,
-    warm_start_motor_lagrange: f32,
 ) -> PrismaticJointSolverData
-    ensures { λ k. ⌜ k ≡ prismaticPrepared joint body1 body2 «warm_start_motor_lagrange» ⌝ }
+    ensures { λ k. ⌜ k ≡ prismaticPrepared joint body1 body2 ⌝ }
 {
     let angle_constraint = FixedAngleConstraintShared::prepare(
         body1.rotation,
@@ -75,7 +73,6 @@ pub fn prepare(
         total_position_lagrange: Vec3::ZERO,
         angle_constraint,
         total_motor_lagrange: 0.0,
-        warm_start_motor_lagrange,
     }
 }
 
@@ -104,58 +101,18 @@ fn push_velocities(
     BodyPair { body1, body2 }
 }
 
+// The motor's warm value is its total of the last step over dt. Of what `prepare` makes only the arms and the axis are read.
 pub fn warm_start_motors(
-    joint: PrismaticJoint,
-    mut solver_data: PrismaticJointSolverData,
-    bodies: BodyPair,
-    inertia1: SolverBodyInertia,
-    inertia2: SolverBodyInertia,
-    warm_start_coefficient: f32,
-) -> PrismaticSolved
-    ensures { λ s. ⌜ s ≡ prismaticWarmStarted joint «solver_data» bodies inertia1 inertia2 «warm_start_coefficient» ⌝ }
-{
-    let motor = joint.motor;
-    if !motor.enabled {
-        return PrismaticSolved {
-            solver_data,
-            bodies,
-        };
-    }
-    let axis = bodies.body1.delta_rotation.mul_vec3(solver_data.free_axis1);
-    let world_r1 = bodies.body1.delta_rotation.mul_vec3(solver_data.world_r1);
-    let world_r2 = bodies.body2.delta_rotation.mul_vec3(solver_data.world_r2);
-    let impulse = axis.scale(warm_start_coefficient * solver_data.warm_start_motor_lagrange);
-    let inv_mass1 = inertia1.effective_inv_mass();
-    let inv_mass2 = inertia2.effective_inv_mass();
-    let warmed = push_velocities(
-        bodies,
-        inv_mass1,
-        inv_mass2,
-        inertia1.inv_angular_inertia,
-        inertia2.inv_angular_inertia,
-        impulse,
-        world_r1,
-        world_r2,
-    );
-    solver_data.warm_start_motor_lagrange = 0.0;
-    PrismaticSolved {
-        solver_data,
-        bodies: warmed,
-    }
-}
-
-// The bodies after `prepare` and `warm_start_motors`, without what these make for the solve alone.
-pub fn warm_started_bodies(
     joint: PrismaticJoint,
     body1: RigidBody,
     body2: RigidBody,
-    warm_start_motor_lagrange: f32,
     bodies: BodyPair,
     inertia1: SolverBodyInertia,
     inertia2: SolverBodyInertia,
+    warm_start_motor_lagrange: f32,
     warm_start_coefficient: f32,
 ) -> BodyPair
-    ensures { λ b. ⌜ b ≡ prismaticWarmStarted joint (prismaticPrepared joint body1 body2 «warm_start_motor_lagrange») bodies inertia1 inertia2 «warm_start_coefficient» .bodies ⌝ }
+    ensures { λ b. ⌜ b ≡ prismaticWarmStarted joint body1 body2 bodies inertia1 inertia2 «warm_start_motor_lagrange» «warm_start_coefficient» ⌝ }
 {
     let motor = joint.motor;
     if !motor.enabled {

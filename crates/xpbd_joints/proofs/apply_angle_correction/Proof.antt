@@ -1,5 +1,5 @@
 use borrow.Author.Needs.{needs}
-use Rattle.xpbd_joints.specs.Stage.{limitStage}
+use Rattle.xpbd_joints.specs.Solved.{limitStage}
 use Rattle.xpbd_joints.proofs.apply_angle_correction.Statement.{statement}
 use Rattle.xpbd_joints.proofs.apply_angle_correction.Tie as tie
 

@@ -1,6 +1,5 @@
-use Rattle.xpbd_plugin.specs.Parts.{linearProjected, angularProjected}
 use Rattle.tick.specs.Body.{finishedBody}
-use Rattle.tick.specs.Parts.{projected}
+use Rattle.tick.specs.Parts.{linearProjected, angularProjected, projected}
 use Rattle.tick.proofs.body.finish.Statement.{statement}
 use Rattle.tick.proofs.body.finish.Tie as tie
 

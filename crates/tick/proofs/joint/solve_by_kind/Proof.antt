@@ -1,10 +1,8 @@
 use borrow.Author.Needs.{needs}
-use Rattle.xpbd_plugin.specs.Joint.{jointPrepared}
 use Rattle.tick.proofs.joint.solve_by_kind.Statement.{statement}
 use Rattle.tick.proofs.joint.solve_by_kind.Tie as tie
 
 pub solve-by-kind-spec : {M : Type 1} → statement M
-unfolding jointPrepared
 solve-by-kind-spec =
     tie.close
     (tie.spec (λ c. search needs) (λ _ _. tt) (λ c. search needs) (λ _ _. tt) (λ c. search needs) (λ _ _. tt) (λ c. search needs) (λ _ _. tt) (λ c. search needs) (λ _ _. tt)

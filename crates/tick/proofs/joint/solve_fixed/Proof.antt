@@ -1,11 +1,8 @@
-use Rattle.xpbd_plugin.specs.Joint.{jointPrepared, jointSolved, totalsOf}
-use Rattle.tick.specs.Joint.{preparedFinite}
-use Rattle.tick.specs.Parts.{keptOf}
+use Rattle.tick.proofs.Results.{fixed-result}
 use Rattle.tick.proofs.joint.solve_fixed.Statement.{statement}
 use Rattle.tick.proofs.joint.solve_fixed.Tie as tie
 
 returns : tie.Need-returns
-unfolding jointPrepared jointSolved keptOf preparedFinite totalsOf
 returns c =
     let c1 = c .before in
     let c2 = c1 .before in
@@ -14,12 +11,14 @@ returns c =
     let c5 = c4 .before in
     let c6 = c5 .before in
     let c7 = c6 .before in
-    simp (
+    let a = c7 .before .args in
+    rw (fixed-result (a .body1) (a .body2) (a .bodies) (a .inertia1) (a .inertia2) (a .dt) (a .joint))
+    (simp (
       c7 .prepare .ensures,
       c6 .solve .ensures,
       c1 .point-finite .ensures,
       c .quat-finite .ensures,
-    )
+    ))
 
 pub solve-fixed-spec : {M : Type 1} → statement M
 solve-fixed-spec = tie.close (tie.spec (λ _ _. tt) (λ _ _. tt) (λ _ _. tt) (λ _ _. tt) returns)

@@ -1,11 +1,8 @@
-use Rattle.xpbd_plugin.specs.Joint.{jointPrepared, jointSolved, totalsOf}
-use Rattle.tick.specs.Joint.{preparedFinite}
-use Rattle.tick.specs.Parts.{keptOf}
+use Rattle.tick.proofs.Results.{prismatic-result}
 use Rattle.tick.proofs.joint.solve_prismatic.Statement.{statement}
 use Rattle.tick.proofs.joint.solve_prismatic.Tie as tie
 
 returns : tie.Need-returns
-unfolding jointPrepared jointSolved keptOf preparedFinite totalsOf
 returns c =
     let c1 = c .before in
     let c2 = c1 .before in
@@ -15,13 +12,15 @@ returns c =
     let c6 = c5 .before in
     let c7 = c6 .before in
     let c8 = c7 .before in
-    simp (
+    let a = c8 .before .args in
+    rw (prismatic-result (a .body1) (a .body2) (a .bodies) (a .inertia1) (a .inertia2) (a .dt) (a .joint))
+    (simp (
       c8 .prepare .ensures,
       c7 .solve .ensures,
       c2 .arms-finite .ensures,
       c1 .vec3-finite .ensures,
       c .quat-finite .ensures,
-    )
+    ))
 
 pub solve-prismatic-spec : {M : Type 1} → statement M
 solve-prismatic-spec = tie.close (tie.spec (λ _ _. tt) (λ _ _. tt) (λ _ _. tt) (λ _ _. tt) (λ _ _. tt) returns)

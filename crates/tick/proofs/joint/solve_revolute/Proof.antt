@@ -1,11 +1,8 @@
-use Rattle.xpbd_plugin.specs.Joint.{jointPrepared, jointSolved, totalsOf}
-use Rattle.tick.specs.Joint.{preparedFinite}
-use Rattle.tick.specs.Parts.{keptOf}
+use Rattle.tick.proofs.Results.{revolute-result}
 use Rattle.tick.proofs.joint.solve_revolute.Statement.{statement}
 use Rattle.tick.proofs.joint.solve_revolute.Tie as tie
 
 returns : tie.Need-returns
-unfolding jointPrepared jointSolved keptOf preparedFinite totalsOf
 returns c =
     let c1 = c .before in
     let c2 = c1 .before in
@@ -16,12 +13,14 @@ returns c =
     let c7 = c6 .before in
     let c8 = c7 .before in
     let c9 = c8 .before in
-    simp (
+    let a = c9 .before .args in
+    rw (revolute-result (a .body1) (a .body2) (a .bodies) (a .inertia1) (a .inertia2) (a .dt) (a .joint))
+    (simp (
       c9 .prepare .ensures,
       c8 .solve .ensures,
       c1 .point-finite .ensures,
       c .axes-finite .ensures,
-    )
+    ))
 
 pub solve-revolute-spec : {M : Type 1} → statement M
 solve-revolute-spec = tie.close (tie.spec (λ _ _. tt) (λ _ _. tt) (λ _ _. tt) (λ _ _. tt) returns)

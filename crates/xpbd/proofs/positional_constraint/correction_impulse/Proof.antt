@@ -1,4 +1,4 @@
-use Rattle.xpbd.specs.Positional.{correctionImpulse}
+use Rattle.xpbd.specs.Parts.{correctionImpulse}
 use Rattle.xpbd.proofs.positional_constraint.correction_impulse.Statement.{statement}
 use Rattle.xpbd.proofs.positional_constraint.correction_impulse.Tie as tie
 

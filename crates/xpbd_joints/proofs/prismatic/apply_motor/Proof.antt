@@ -1,5 +1,6 @@
-use Rattle.xpbd_joints.specs.Stage.{unlessOff}
-use Rattle.xpbd_joints.specs.Prismatic.{drivenAlong, linearMotorGiven, linearMotorStage}
+use Rattle.joints.specs.Motor.{unlessOff}
+use Rattle.xpbd_joints.specs.Prismatic.{linearMotorGiven}
+use Rattle.xpbd_joints.specs.Solved.{drivenAlong, linearMotorStage}
 use Rattle.xpbd_joints.proofs.prismatic.apply_motor.Statement.{statement}
 use Rattle.xpbd_joints.proofs.prismatic.apply_motor.Tie as tie
 

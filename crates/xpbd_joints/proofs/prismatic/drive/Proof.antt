@@ -1,5 +1,5 @@
 use borrow.Author.Needs.{needs}
-use Rattle.xpbd_joints.specs.Prismatic.{drivenAlong}
+use Rattle.xpbd_joints.specs.Solved.{drivenAlong}
 use Rattle.xpbd_joints.proofs.prismatic.drive.Statement.{statement}
 use Rattle.xpbd_joints.proofs.prismatic.drive.Tie as tie
 

@@ -1,5 +1,5 @@
 use borrow.Author.Needs.{needs}
-use Rattle.xpbd_joints.specs.Revolute.{angleLimitStage}
+use Rattle.xpbd_joints.specs.Solved.{angleLimitStage}
 use Rattle.xpbd_joints.proofs.revolute.apply_angle_limits.Statement.{statement}
 use Rattle.xpbd_joints.proofs.revolute.apply_angle_limits.Tie as tie
 

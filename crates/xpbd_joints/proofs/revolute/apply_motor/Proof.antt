@@ -1,5 +1,6 @@
-use Rattle.xpbd_joints.specs.Stage.{unlessOff}
-use Rattle.xpbd_joints.specs.Revolute.{drivenBy, angularMotorGiven, motorStage}
+use Rattle.joints.specs.Motor.{unlessOff}
+use Rattle.xpbd_joints.specs.Revolute.{angularMotorGiven}
+use Rattle.xpbd_joints.specs.Solved.{drivenBy, motorStage}
 use Rattle.xpbd_joints.proofs.revolute.apply_motor.Statement.{statement}
 use Rattle.xpbd_joints.proofs.revolute.apply_motor.Tie as tie
 

@@ -1,5 +1,5 @@
 use borrow.Author.Needs.{needs}
-use Rattle.xpbd_joints.specs.Revolute.{drivenBy}
+use Rattle.xpbd_joints.specs.Solved.{drivenBy}
 use Rattle.xpbd_joints.proofs.revolute.drive.Statement.{statement}
 use Rattle.xpbd_joints.proofs.revolute.drive.Tie as tie
 

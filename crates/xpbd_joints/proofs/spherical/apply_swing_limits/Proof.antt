@@ -1,5 +1,5 @@
 use borrow.Author.Needs.{needs}
-use Rattle.xpbd_joints.specs.Spherical.{swingStage}
+use Rattle.xpbd_joints.specs.Solved.{swingStage}
 use Rattle.xpbd_joints.proofs.spherical.apply_swing_limits.Statement.{statement}
 use Rattle.xpbd_joints.proofs.spherical.apply_swing_limits.Tie as tie
 

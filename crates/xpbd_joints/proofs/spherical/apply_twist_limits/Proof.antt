@@ -1,5 +1,5 @@
 use borrow.Author.Needs.{needs}
-use Rattle.xpbd_joints.specs.Spherical.{twistStage}
+use Rattle.xpbd_joints.specs.Solved.{twistStage}
 use Rattle.xpbd_joints.proofs.spherical.apply_twist_limits.Statement.{statement}
 use Rattle.xpbd_joints.proofs.spherical.apply_twist_limits.Tie as tie
 

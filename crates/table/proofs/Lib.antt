@@ -1,7 +1,0 @@
-pub mod Loading
-pub mod SolverBodies
-pub mod Turns
-pub mod Solving
-pub mod Ends
-pub mod Ticking
-pub mod Examples

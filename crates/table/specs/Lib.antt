@@ -1,4 +1,0 @@
-pub mod Tick
-pub mod Run
-pub mod Work
-pub mod Examples

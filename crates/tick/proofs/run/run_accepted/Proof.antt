@@ -1,0 +1,10 @@
+use borrow.Author.Needs.{needs}
+use Rattle.tick.proofs.run.run_accepted.Statement.{statement}
+use Rattle.tick.proofs.run.run_accepted.Tie as tie
+
+run-few-requires : tie.Need-run-few-requires
+run-few-requires c κs = let p = (c .before .before .before .before .before .before .before .pre) in (p .0, p .1, p .2, (c .before .before .before .if1) .taken, (c .before .if2) .taken)
+
+pub run-accepted-spec : {M : Type 1} → statement M
+run-accepted-spec =
+    tie.close (tie.spec run-few-requires (λ c. search needs) (λ c. search needs) (λ c κs. search needs) (λ c. search needs) (λ c. search needs))
