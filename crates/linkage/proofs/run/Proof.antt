@@ -1,37 +1,39 @@
+use Prim.Native.Nat.{_-_}
 use native.Mathlib.Omega.{arith}
 use borrow.Author.Needs.{needs}
-use Prim.Native.Nat.{_-_}
-use mathlib.Core.Path.{_≡_, refl}
+use mathlib.Core.Path.{_≡_, refl, sym}
 use lib.ListN.{length}
+use lib.Seq.{length-take-le}
 use Rattle.linkage.proofs.run.Statement.{statement}
 use Rattle.linkage.proofs.run.Tie as tie
 
--- a tick keeps the state's length
 abbrev Inv-loop : tie.InvT-loop
-Inv-loop card state₀ bodies ticks done₀ state done = length state ≡ length state₀
+Inv-loop card state₀ bodies ticks out₀ done₀ state out done = (length state ≡ length state₀) × (65536 ≡ length out)
 
 abbrev μ-loop : tie.MeasureT-loop
-μ-loop card state₀ bodies ticks done₀ state done = ticks - done
+μ-loop card state₀ bodies ticks out₀ done₀ state out done = ticks - done
 
-same-length : tie.Need-same-length Inv-loop μ-loop
-same-length c = search needs
+loop-holds : tie.Need-loop-holds Inv-loop μ-loop
+loop-holds c = (refl, c .large-buffer .ensures)
 
-add-done : tie.Need-add-done Inv-loop μ-loop
-add-done c = omega arith
+slice-aggregate-fill : tie.Need-slice-aggregate-fill Inv-loop μ-loop
+slice-aggregate-fill c = search needs
 
-print-poses-requires : tie.Need-print-poses-requires Inv-loop μ-loop
-print-poses-requires c κs = omega arith
+fill-requires : tie.Need-fill-requires Inv-loop μ-loop
+fill-requires c κs = (omega arith, omega arith, omega arith, omega arith, omega arith)
 
-loop-less : tie.Need-loop-less Inv-loop μ-loop
-loop-less c = omega arith
+array-share-prefix-out : tie.Need-array-share-prefix-out Inv-loop μ-loop
+array-share-prefix-out c = omega arith
+
+slice-aggregate-write-all : tie.Need-slice-aggregate-write-all Inv-loop μ-loop
+slice-aggregate-write-all c = sym (length-take-le _ _ (omega arith))
 
 loop-again : tie.Need-loop-again Inv-loop μ-loop
-loop-again c = search needs
-
-same-length-2 : tie.Need-same-length-2 Inv-loop μ-loop
-same-length-2 c = search needs
+loop-again c = (omega arith, omega arith)
 
 pub run-spec : {M : Type 1} → statement M
 run-spec =
     tie.close
-    (tie.spec Inv-loop μ-loop (λ _. refl) (λ _ _. tt) (λ _ _. tt) (λ _ _. tt) same-length (λ _. tt) add-done print-poses-requires loop-less loop-again same-length-2 (λ _. tt))
+    (tie.spec
+    Inv-loop μ-loop (λ _ _. tt) loop-holds slice-aggregate-fill fill-requires array-share-prefix-out slice-aggregate-write-all (λ _ _. tt)
+    (λ c. search needs) (λ _. tt) (λ c. omega arith) loop-again (λ c. search needs) (λ _. tt))

@@ -21,7 +21,7 @@ fits : (b n : ℕ) (room : List Float) → n ≤ length room → bodyNumbers * b
 fits b n room h k = rw (length-take-le n room h) k
 
 start-and-run-requires : tie.Need-start-and-run-requires
-start-and-run-requires c κs = let n = few _ (c .before .before .before .sizes .ensures) in (n .0, fits _ _ _ (omega (arith, n)) (n .3))
+start-and-run-requires c κs = let n = few _ (c .before .before .before .sizes .ensures) in (n .0, fits _ _ _ (omega (arith, n)) (n .3), omega arith)
 
 pub run-card-spec : {M : Type 1} → statement M
 run-card-spec =

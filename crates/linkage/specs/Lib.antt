@@ -1,0 +1,4 @@
+pub mod Ascii
+pub mod Examples
+pub mod Lines
+pub mod Parts
