@@ -19,6 +19,13 @@ abbrev μ-loop : tie.MeasureT-loop
 loop-holds : tie.Need-loop-holds Inv-loop μ-loop
 loop-holds c = (omega arith, rw no-lines put-none)
 
+loop-again : tie.Need-loop-again Inv-loop μ-loop
+loop-again c =
+    let l = c .before .before .before .before .before .before .loop in
+    let a = c .before .before .before .before .before .before .before .before .before .args in
+    let line = rw (pose-is (a .state .now) (l .i) (bodyNumbers * l .i + 7 - bodyNumbers * l .i) (omega arith) (omega arith)) at (c .before .before .put-line .ensures) in
+    (omega arith, rw (more-lines (a .tick) (a .state .now) (l .i)) (put-both (l .inv .1) line))
+
 put-line-requires : tie.Need-put-line-requires Inv-loop μ-loop
 put-line-requires c κs =
     let l = c .before .before .before .loop in
@@ -27,13 +34,6 @@ put-line-requires c κs =
     let seven = ap length (pose-is (a .state .now) (l .i) n (omega arith) (omega arith)) in
     omega
     (arith, line-short (a .tick) (l .i) (take n (drop (bodyNumbers * l .i) (a .state .now))) (omega arith) (omega arith) seven, lines-short (a .tick) (a .state .now) (omega arith) (l .i) (omega arith), l .inv .1 .next, put-length (l .inv .1))
-
-loop-again : tie.Need-loop-again Inv-loop μ-loop
-loop-again c =
-    let l = c .before .before .before .before .before .before .loop in
-    let a = c .before .before .before .before .before .before .before .before .before .args in
-    let line = rw (pose-is (a .state .now) (l .i) (bodyNumbers * l .i + 7 - bodyNumbers * l .i) (omega arith) (omega arith)) at (c .before .before .put-line .ensures) in
-    (omega arith, rw (more-lines (a .tick) (a .state .now) (l .i)) (put-both (l .inv .1) line))
 
 returns : tie.Need-returns Inv-loop μ-loop
 returns c =

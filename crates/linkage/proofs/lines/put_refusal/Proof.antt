@@ -5,6 +5,13 @@ use Rattle.linkage.proofs.Writes.{put-length}
 use Rattle.linkage.proofs.lines.put_refusal.Statement.{statement}
 use Rattle.linkage.proofs.lines.put_refusal.Tie as tie
 
+returns : tie.Need-returns
+returns c =
+    let d = c .before .before in
+    let w = d .before .before .before .before in
+    let o = w .before .before .before .before in
+    whole-refusal (o .args .number) (omega arith) (o .pre) (w .put-bytes .ensures) (d .put-decimal .ensures)
+
 put-decimal-requires : tie.Need-put-decimal-requires
 put-decimal-requires c κs =
     let w = c .before .before .before in
@@ -24,13 +31,6 @@ add-result c =
     let w = d .before .before .before .before in
     let o = w .before .before .before .before in
     omega (arith, number-room (o .args .number) (omega arith) (o .pre) (w .put-bytes .ensures) (d .put-decimal .ensures))
-
-returns : tie.Need-returns
-returns c =
-    let d = c .before .before in
-    let w = d .before .before .before .before in
-    let o = w .before .before .before .before in
-    whole-refusal (o .args .number) (omega arith) (o .pre) (w .put-bytes .ensures) (d .put-decimal .ensures)
 
 same-length : tie.Need-same-length
 same-length c = put-length (returns c)
