@@ -8,7 +8,7 @@ use lib.ListN.{length, take, drop, length-append}
 use lib.Seq.{sets-eq, take-at, length-take-le}
 use borrow.Author.Tests.{ne-eqb}
 use Rattle.state.specs.State.{answered}
-use Rattle.table.specs.Run.{tickOf}
+use Rattle.tick.specs.Run.{tickOf}
 use Rattle.linkage.specs.Lines.{linesOf, refusalOf, outputOf}
 use Rattle.linkage.specs.Parts.{Put}
 

@@ -8,7 +8,7 @@ use Rattle.solver_body.specs.declared.BodyState.{BodyState}
 use Rattle.numbers.specs.Lists.{concat, each}
 use Rattle.numbers.specs.Numbers.{numbers3, numbers4}
 use Rattle.state.specs.State.{bodyAt}
-use Rattle.table.specs.Run.{tickOf}
+use Rattle.tick.specs.Run.{tickOf}
 use Rattle.linkage.specs.Ascii.{ascii}
 
 -- two bytes, high one first

@@ -7,7 +7,7 @@ ghost use Rattle.state.specs.State.{bodyNumbers};
 ghost use Rattle.linkage.specs.Lines.{outputOf};
 use crate::lines::put_lines;
 use crate::lines::put_refusal;
-use table::run::tick;
+use tick::run::tick;
 
 // How many bytes of the buffer were filled, and how many ticks are done: all of them, where one was refused.
 pub struct Filled {

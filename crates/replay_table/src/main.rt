@@ -5,7 +5,7 @@ use replay::print_line_end;
 use replay::print_space;
 use state::sizes::sizes;
 use state::start::start;
-use table::run::run;
+use tick::run::run;
 ghost use Prim.Native.Nat.{_<_};
 
 // The state of 255 bodies and 255 joints: no card has more of either.
