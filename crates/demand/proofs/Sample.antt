@@ -16,13 +16,10 @@ use Rattle.solver_body.specs.Body.{solverBodyOf, unlocked, effectiveInvMass}
 use Rattle.xpbd.specs.Multiplier.{lagrangeUpdate}
 use Rattle.xpbd.specs.Positional.{anchorArm, centerDifference, separationOf, generalizedInverseMass, weight, impulseApplied, pushed, deltaRot, pulled}
 use Rattle.xpbd.specs.Angular.{angularInverseMass, angularImpulseApplied, turned, angularDeltaRot}
-use Rattle.xpbd.specs.Point.{pointPrepared}
-use Rattle.xpbd.specs.FixedAngle.{rotationDifference, anglePrepared}
-use Rattle.xpbd_joints.specs.Fixed.{fixedPrepared}
-use Rattle.xpbd_joints.specs.Distance.{distancePrepared}
-use Rattle.xpbd_joints.specs.Revolute.{revolutePrepared, spun, revoluteWarmed, wrappedError, hingeAngle, angularMotorGiven}
-use Rattle.xpbd_joints.specs.Prismatic.{prismaticPrepared, pushedBy, prismaticWarmed, linearMotorGiven, freeAxisCorrection, slideCorrection}
-use Rattle.xpbd_joints.specs.Spherical.{matrixPoint, sphericalPrepared, swingCorrection, perpendicular, maxTwist, twistCorrection}
+use Rattle.xpbd.specs.FixedAngle.{rotationDifference}
+use Rattle.xpbd_joints.specs.Revolute.{spun, revoluteWarmed, wrappedError, hingeAngle, angularMotorGiven}
+use Rattle.xpbd_joints.specs.Prismatic.{pushedBy, prismaticWarmed, linearMotorGiven, freeAxisCorrection, slideCorrection}
+use Rattle.xpbd_joints.specs.Spherical.{swingCorrection, perpendicular, maxTwist, twistCorrection}
 use Rattle.xpbd_joints.specs.Stage.{correctionOf, multiplierAt, totalChange, afterOf}
 use Rattle.xpbd_joints.specs.Steps.{stepsOf, run, events, warmed}
 use Rattle.numbers.specs.Lists.{all, concat, each, after}
@@ -38,16 +35,16 @@ use Rattle.tick.specs.Run.{tickOf}
 use Rattle.demand.specs.Sample.{Sample}
 
 pub sample-holds : Sample
-unfolding ofBits ofFields ofInt add sub mul div neg rem sum round units odd size span climb le lt eq toUnsigned minOf maxOf clampOf remEuclidOf isFinite outside rootOf rootUnits floorRoot digits sines arcs overUnit interpolated sinSmall cosSmall sinOf scaledOf tableSine carried cosOf atan2Of angleOf halfPlaneAngle quadrantAngle atanOf atanSmall atanAt asinOf addOf subOf negOf scaleOf timesOf divOf dotOf crossOf lengthSquaredOf lengthOf maxElement clampLengthMax anyOrthonormal anyOrthogonal signum vectorPart productOf inverseOf normalized dividedBy normOf turnOf ofScaledAxis ofAxisAngle tensorTimes ofQuat matrixTimes distanceCorrection axisCorrection obtuse wrapped angleAbout angleCorrection motorLagrange velocityChange capped unlessOff solverBodyOf unlocked effectiveInvMass lagrangeUpdate anchorArm centerDifference separationOf generalizedInverseMass weight impulseApplied pushed deltaRot pulled angularInverseMass angularImpulseApplied turned angularDeltaRot pointPrepared rotationDifference anglePrepared fixedPrepared distancePrepared revolutePrepared spun revoluteWarmed wrappedError hingeAngle angularMotorGiven prismaticPrepared pushedBy prismaticWarmed linearMotorGiven freeAxisCorrection slideCorrection matrixPoint sphericalPrepared swingCorrection perpendicular maxTwist twistCorrection correctionOf multiplierAt totalChange afterOf stepsOf run events warmed all concat each after bitsAt numbersAt recordsAt anyCell outOf kindAt editionOf cardOf signed bodyIn modelIn angularMotorIn linearMotorIn fixedIn revoluteIn prismaticIn sphericalIn distanceIn kindIn linkageOf bodyAt totalsAt startState badNumbers integrated angularChange finishedBody dominatedOf preparedNumbers steps loaded warmStarted preSolve solveNext solvePass eventsAt newBody newState stopped tickOf checks.any checks.offUnit
+unfolding ofBits ofFields ofInt add sub mul div neg rem sum round units odd size span climb le lt eq toUnsigned minOf maxOf clampOf remEuclidOf isFinite outside rootOf rootUnits floorRoot digits sines arcs overUnit interpolated sinSmall cosSmall sinOf scaledOf tableSine carried cosOf atan2Of angleOf halfPlaneAngle quadrantAngle atanOf atanSmall atanAt asinOf addOf subOf negOf scaleOf timesOf divOf dotOf crossOf lengthSquaredOf lengthOf maxElement clampLengthMax anyOrthonormal anyOrthogonal signum vectorPart productOf inverseOf normalized dividedBy normOf turnOf ofScaledAxis ofAxisAngle tensorTimes ofQuat matrixTimes distanceCorrection axisCorrection obtuse wrapped angleAbout angleCorrection motorLagrange velocityChange capped unlessOff solverBodyOf unlocked effectiveInvMass lagrangeUpdate anchorArm centerDifference separationOf generalizedInverseMass weight impulseApplied pushed deltaRot pulled angularInverseMass angularImpulseApplied turned angularDeltaRot rotationDifference spun revoluteWarmed wrappedError hingeAngle angularMotorGiven pushedBy prismaticWarmed linearMotorGiven freeAxisCorrection slideCorrection swingCorrection perpendicular maxTwist twistCorrection correctionOf multiplierAt totalChange afterOf stepsOf run events warmed all concat each after bitsAt numbersAt recordsAt anyCell outOf kindAt editionOf cardOf signed bodyIn modelIn angularMotorIn linearMotorIn fixedIn revoluteIn prismaticIn sphericalIn distanceIn kindIn linkageOf bodyAt totalsAt startState badNumbers integrated angularChange finishedBody dominatedOf preparedNumbers steps loaded warmStarted preSolve solveNext solvePass eventsAt newBody newState stopped tickOf checks.any checks.offUnit
 sample-holds =
     record {
       done = refl;
-      multipliers = refl;
       fixed = refl;
       hinge = refl;
       slide = refl;
       ball = refl;
       tethered = refl;
+      capped = refl;
       stiff = refl;
       softer = refl;
     }

@@ -44,10 +44,10 @@ pub record SoundEntry (e : Entry) (α : Float) : Type 0 where
   pub soft-fits : T (fits binary32 α)
   pub soft-up : T (le f0 α)
   pub change : Finite3 (scaleOf (correctionOf e .n) (multiplierAt e α))
-  pub d₁ : Held3 (e .x₁)
-  pub d₂ : Held3 (e .x₂)
-  pub q₁ : Held3 (e .m₁)
-  pub q₂ : Held3 (e .m₂)
+  pub d₁ : Held3 (e .b₁ .x)
+  pub d₂ : Held3 (e .b₂ .x)
+  pub q₁ : Held3 (e .b₁ .m)
+  pub q₂ : Held3 (e .b₂ .m)
 
 abbrev pub SoundStage : Stage → Type 0
 SoundStage s = SoundEntry (entryOf s) (s .compliance)
@@ -124,7 +124,7 @@ limit-fits e (limit.Some d) = rotation-fits d
 
 asked-fits : (k : Reads) (e : Entry) → FitAsked (asked e k .error) (asked e k .n)
 asked-fits (point a b d) e = let s = separation e a b d in (length-fits s, div-fits3 (negOf s) (lengthOf s))
-asked-fits (angle q) e = rotation-fits (rotationDifference q (e .q₁) (e .q₂))
+asked-fits (angle q) e = rotation-fits (rotationDifference q (e .b₁ .q) (e .b₂ .q))
 asked-fits (hingeAlign a b) e = rotation-fits (crossOf (turned₁ e a) (turned₂ e b))
 asked-fits (hingeLimit o a₁ b₁ b₂) e = limit-fits e (limited o (λ l. angleCorrection l (turned₁ e a₁) (turned₁ e b₁) (turned₂ e b₂) pi))
 asked-fits (slideAlign o a b d axis) e = rotation-fits (slideCorrection o (separation e a b d) (turned₁ e axis))

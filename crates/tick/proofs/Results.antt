@@ -15,19 +15,16 @@ use Rattle.joints.specs.declared.distance.DistanceJoint.{DistanceJoint}
 use Rattle.solver_body.specs.declared.RigidBody.{RigidBody}
 use Rattle.solver_body.specs.declared.SolverBodyInertia.{SolverBodyInertia}
 use Rattle.solver_body.specs.declared.BodyPair.{BodyPair}
-use Rattle.xpbd_joints.specs.Fixed.{fixedPrepared}
-use Rattle.xpbd_joints.specs.Distance.{distancePrepared}
-use Rattle.xpbd_joints.specs.Revolute.{revolutePrepared}
-use Rattle.xpbd_joints.specs.Prismatic.{prismaticPrepared}
-use Rattle.xpbd_joints.specs.Spherical.{sphericalPrepared}
+use Rattle.xpbd_joints.specs.Solved.{fixedPrepared, distancePrepared, revolutePrepared, prismaticPrepared, matrixPoint, sphericalPrepared}
+use Rattle.xpbd.specs.Parts.{pointPrepared, anglePrepared}
 use Rattle.xpbd_joints.specs.Steps.{totals}
 use Rattle.xpbd_joints.specs.Solved.{fixedSolved, distanceSolved, revoluteSolved, prismaticSolved, sphericalSolved}
 use Rattle.xpbd_joints.proofs.Same.{fixed-is, revolute-is, prismatic-is, spherical-is, distance-is}
 use Rattle.numbers.specs.Lists.{all}
 use Rattle.numbers.specs.Numbers.{numbers3, numbers4}
 use Rattle.state.specs.State.{totalsNumbers}
-use Rattle.tick.specs.Joint.{armNumbers, pointNumbers, axisNumbers, preparedNumbers, solverNumbers}
-use Rattle.tick.specs.Parts.{runWith, solvedWith, preparedWith, testedOf}
+use Rattle.tick.specs.Joint.{armNumbers, preparedNumbers, solverNumbers}
+use Rattle.tick.specs.Parts.{pointNumbers, fourNumbers, runWith, solvedWith, preparedWith, testedOf}
 use Rattle.tick.proofs.All.{both, three, four}
 
 module _ (b₁ b₂ : RigidBody) (b : BodyPair) (i₁ i₂ : SolverBodyInertia) (h : Float) where
@@ -51,7 +48,7 @@ module _ (b₁ b₂ : RigidBody) (b : BodyPair) (i₁ i₂ : SolverBodyInertia) 
         bodies = s .bodies;
         totals = totals (s .«solver_data» .«point_constraint» .«total_lagrange») (s .«solver_data» .«angle_constraint» .«total_lagrange») origin origin;
       }
-  unfolding preparedWith preparedNumbers
+  unfolding preparedWith preparedNumbers fixedPrepared pointPrepared anglePrepared
   fixed-result j =
       let k = fixedPrepared j b₁ b₂ in
       λ z. record {
@@ -66,15 +63,15 @@ module _ (b₁ b₂ : RigidBody) (b : BodyPair) (i₁ i₂ : SolverBodyInertia) 
       let d = s .«solver_data» in
       preparedWith (Revolute j) b₁ b₂ b i₁ i₂ h
       ≡ record {
-        finite = all isFinite (pointNumbers (k .«point_constraint»)) && all isFinite (axisNumbers (k .a1) (k .a2) (k .b1) (k .b2));
+        finite = all isFinite (pointNumbers (k .«point_constraint»)) && all isFinite (fourNumbers (k .a1) (k .a2) (k .b1) (k .b2));
         bodies = s .bodies;
         totals = totals (d .«point_constraint» .«total_lagrange») (d .«total_align_lagrange») (d .«total_limit_lagrange») (d .«total_motor_lagrange»);
       }
-  unfolding preparedWith preparedNumbers
+  unfolding preparedWith preparedNumbers revolutePrepared pointPrepared
   revolute-result j =
       let k = revolutePrepared j b₁ b₂ in
       λ z. record {
-        finite = both (pointNumbers (k .«point_constraint»)) (axisNumbers (k .a1) (k .a2) (k .b1) (k .b2)) z;
+        finite = both (pointNumbers (k .«point_constraint»)) (fourNumbers (k .a1) (k .a2) (k .b1) (k .b2)) z;
         bodies = revolute-is i₁ i₂ h b₁ b₂ b j z .bodies;
         totals = revolute-is i₁ i₂ h b₁ b₂ b j z .totals;
       }
@@ -91,7 +88,7 @@ module _ (b₁ b₂ : RigidBody) (b : BodyPair) (i₁ i₂ : SolverBodyInertia) 
         bodies = s .bodies;
         totals = totals (d .«total_position_lagrange») (d .«angle_constraint» .«total_lagrange») (record { x = d .«total_motor_lagrange»; y = f0; z = f0 }) origin;
       }
-  unfolding preparedWith preparedNumbers
+  unfolding preparedWith preparedNumbers prismaticPrepared anglePrepared
   prismatic-result j =
       let k = prismaticPrepared j b₁ b₂ in
       λ z. record {
@@ -109,15 +106,15 @@ module _ (b₁ b₂ : RigidBody) (b : BodyPair) (i₁ i₂ : SolverBodyInertia) 
       ≡ record {
         finite =
             all isFinite (pointNumbers (k .«point_constraint»))
-            && all isFinite (axisNumbers (k .«swing_axis1») (k .«swing_axis2») (k .«twist_axis1») (k .«twist_axis2»));
+            && all isFinite (fourNumbers (k .«swing_axis1») (k .«swing_axis2») (k .«twist_axis1») (k .«twist_axis2»));
         bodies = s .bodies;
         totals = totals (d .«point_constraint» .«total_lagrange») (d .«total_swing_lagrange») (d .«total_twist_lagrange») origin;
       }
-  unfolding preparedWith preparedNumbers
+  unfolding preparedWith preparedNumbers sphericalPrepared matrixPoint
   spherical-result j =
       let k = sphericalPrepared j b₁ b₂ in
       λ z. record {
-        finite = both (pointNumbers (k .«point_constraint»)) (axisNumbers (k .«swing_axis1») (k .«swing_axis2») (k .«twist_axis1») (k .«twist_axis2»)) z;
+        finite = both (pointNumbers (k .«point_constraint»)) (fourNumbers (k .«swing_axis1») (k .«swing_axis2») (k .«twist_axis1») (k .«twist_axis2»)) z;
         bodies = spherical-is i₁ i₂ h b₁ b₂ b j z .bodies;
         totals = spherical-is i₁ i₂ h b₁ b₂ b j z .totals;
       }
@@ -131,7 +128,7 @@ module _ (b₁ b₂ : RigidBody) (b : BodyPair) (i₁ i₂ : SolverBodyInertia) 
         bodies = s .bodies;
         totals = totals (s .«solver_data» .«total_lagrange») origin origin origin;
       }
-  unfolding preparedWith preparedNumbers
+  unfolding preparedWith preparedNumbers distancePrepared
   distance-result j =
       let k = distancePrepared j b₁ b₂ in
       λ z. record {

@@ -3,19 +3,17 @@ use mathlib.Core.List.{List, _++_}
 use lib.Ieee.{Float}
 use lib.Signed.{ltZ}
 use Rattle.scalar.specs.Arith.{if_then_else_}
+use Rattle.vector.specs.Vector.{anyOrthonormal}
 use Rattle.vector.specs.declared.Vec3.{Vec3}
+use Rattle.joints.specs.declared.JointFrame.{JointFrame}
 use Rattle.joints.specs.declared.Joint.{Joint}
 use Rattle.joints.specs.declared.Joint.the-variants.{Fixed, Revolute, Prismatic, Spherical, Distance}
 use Rattle.solver_body.specs.Body.{dummyInertia}
 use Rattle.solver_body.specs.declared.RigidBody.{RigidBody}
 use Rattle.solver_body.specs.declared.SolverBody.{SolverBody}
 use Rattle.solver_body.specs.declared.SolverBodyInertia.{SolverBodyInertia}
-use Rattle.xpbd.specs.declared.point_constraint.PointConstraintShared.{PointConstraintShared}
-use Rattle.xpbd_joints.specs.Fixed.{fixedPrepared}
-use Rattle.xpbd_joints.specs.Distance.{distancePrepared}
-use Rattle.xpbd_joints.specs.Revolute.{revolutePrepared}
-use Rattle.xpbd_joints.specs.Prismatic.{prismaticPrepared}
-use Rattle.xpbd_joints.specs.Spherical.{sphericalPrepared}
+use Rattle.xpbd.specs.Positional.{anchorArm, centerDifference}
+use Rattle.xpbd_joints.specs.Prepared.{offset, axisIn, matrixArm, matrixAxis}
 use Rattle.xpbd_joints.specs.Steps.{Run}
 use Rattle.numbers.specs.Numbers.{numbers3, numbers4}
 use Rattle.state.specs.State.{totalsNumbers}
@@ -34,23 +32,24 @@ dominatedOf i₁ i₂ =
 abbrev pub armNumbers : Vec3 → Vec3 → Vec3 → List Float
 armNumbers r₁ r₂ d = numbers3 r₁ ++ numbers3 r₂ ++ numbers3 d
 
-abbrev pub pointNumbers : PointConstraintShared → List Float
-pointNumbers p = armNumbers (p .«world_r1») (p .«world_r2») (p .«center_difference»)
+abbrev pub arms : RigidBody → RigidBody → Vec3 → Vec3 → List Float
+arms b₁ b₂ anchor₁ anchor₂ = armNumbers (anchorArm b₁ anchor₁) (anchorArm b₂ anchor₂) (centerDifference b₁ b₂)
 
--- a joint's axes, two in each body
-abbrev pub axisNumbers : Vec3 → Vec3 → Vec3 → Vec3 → List Float
-axisNumbers a₁ a₂ b₁ b₂ = numbers3 a₁ ++ numbers3 a₂ ++ numbers3 b₁ ++ numbers3 b₂
+-- the axis a of both bodies, and the axis c
+abbrev pub axisNumbers : (RigidBody → JointFrame → Vec3 → Vec3) → RigidBody → RigidBody → JointFrame → JointFrame → Vec3 → Vec3 → List Float
+axisNumbers turn b₁ b₂ f₁ f₂ a c = numbers3 (turn b₁ f₁ a) ++ numbers3 (turn b₂ f₂ a) ++ numbers3 (turn b₁ f₁ c) ++ numbers3 (turn b₂ f₂ c)
 
+-- what a joint prepared
 unfoldable pub preparedNumbers : Joint → RigidBody → RigidBody → List Float
-preparedNumbers (Fixed j) b₁ b₂ = let k = fixedPrepared j b₁ b₂ in pointNumbers (k .«point_constraint») ++ numbers4 (k .«angle_constraint» .«rotation_difference»)
-preparedNumbers (Revolute j) b₁ b₂ = let k = revolutePrepared j b₁ b₂ in pointNumbers (k .«point_constraint») ++ axisNumbers (k .a1) (k .a2) (k .b1) (k .b2)
+preparedNumbers (Fixed j) b₁ b₂ = arms b₁ b₂ (j .frame1 .anchor) (j .frame2 .anchor) ++ numbers4 (offset b₁ b₂ (j .frame1) (j .frame2))
+preparedNumbers (Revolute j) b₁ b₂ =
+    arms b₁ b₂ (j .frame1 .anchor) (j .frame2 .anchor) ++ axisNumbers axisIn b₁ b₂ (j .frame1) (j .frame2) (j .«hinge_axis») (anyOrthonormal (j .«hinge_axis»))
 preparedNumbers (Prismatic j) b₁ b₂ =
-    let k = prismaticPrepared j b₁ b₂ in
-    armNumbers (k .«world_r1») (k .«world_r2») (k .«center_difference») ++ numbers3 (k .«free_axis1») ++ numbers4 (k .«angle_constraint» .«rotation_difference»)
+    arms b₁ b₂ (j .frame1 .anchor) (j .frame2 .anchor) ++ numbers3 (axisIn b₁ (j .frame1) (j .«slider_axis»)) ++ numbers4 (offset b₁ b₂ (j .frame1) (j .frame2))
 preparedNumbers (Spherical j) b₁ b₂ =
-    let k = sphericalPrepared j b₁ b₂ in
-    pointNumbers (k .«point_constraint») ++ axisNumbers (k .«swing_axis1») (k .«swing_axis2») (k .«twist_axis1») (k .«twist_axis2»)
-preparedNumbers (Distance j) b₁ b₂ = let k = distancePrepared j b₁ b₂ in armNumbers (k .«world_r1») (k .«world_r2») (k .«center_difference»)
+    armNumbers (matrixArm b₁ (j .frame1 .anchor)) (matrixArm b₂ (j .frame2 .anchor)) (centerDifference b₁ b₂)
+    ++ axisNumbers matrixAxis b₁ b₂ (j .frame1) (j .frame2) (anyOrthonormal (j .«twist_axis»)) (j .«twist_axis»)
+preparedNumbers (Distance j) b₁ b₂ = arms b₁ b₂ (j .anchor1) (j .anchor2)
 
 -- velocities and deltas
 abbrev pub solverNumbers : SolverBody → List Float

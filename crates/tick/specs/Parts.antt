@@ -1,5 +1,6 @@
 -- What the parts of a tick hand to each other, for their own contracts: Body.antt and Joint.antt need none of it.
 use mathlib.Core.Bool.{_&&_}
+use mathlib.Core.List.{List, _++_}
 use lib.Ieee.{Float}
 use Rattle.scalar.specs.Scalar.{isFinite}
 use Rattle.vector.specs.Vector.{addOf, subOf, divOf}
@@ -12,13 +13,15 @@ use Rattle.solver_body.specs.declared.RigidBody.{RigidBody}
 use Rattle.solver_body.specs.declared.SolverBody.{SolverBody}
 use Rattle.solver_body.specs.declared.SolverBodyInertia.{SolverBodyInertia}
 use Rattle.solver_body.specs.declared.BodyPair.{BodyPair}
+use Rattle.xpbd.specs.declared.point_constraint.PointConstraintShared.{PointConstraintShared}
+use Rattle.numbers.specs.Numbers.{numbers3}
 use Rattle.xpbd_joints.specs.Steps.{noTotals, stepsOf, Run, run, warmed}
 use Rattle.xpbd_joints.specs.Solved.{settingOf}
 use Rattle.xpbd_joints.specs.declared.JointTotals.{JointTotals}
 use Rattle.numbers.specs.Lists.{all}
 use Rattle.state.specs.State.{totalsNumbers}
 use Rattle.tick.specs.Body.{angularChange}
-use Rattle.tick.specs.Joint.{dominatedOf, preparedNumbers, solverNumbers, lookedAt}
+use Rattle.tick.specs.Joint.{dominatedOf, armNumbers, preparedNumbers, solverNumbers, lookedAt}
 use Rattle.tick.specs.declared.joint.JointResult.{JointResult}
 
 -- ---- a body
@@ -47,6 +50,13 @@ unfoldable pub projected : SolverBody → SolverBody → Float → SolverBody
 projected pre b h = angularProjected (linearProjected b (pre .«delta_position») h) (pre .«delta_rotation») h
 
 -- ---- a joint
+
+-- numbers that a kind prepared
+abbrev pub pointNumbers : PointConstraintShared → List Float
+pointNumbers p = armNumbers (p .«world_r1») (p .«world_r2») (p .«center_difference»)
+
+abbrev pub fourNumbers : Vec3 → Vec3 → Vec3 → Vec3 → List Float
+fourNumbers a₁ a₂ b₁ b₂ = numbers3 a₁ ++ numbers3 a₂ ++ numbers3 b₁ ++ numbers3 b₂
 
 -- what a tick keeps of a joint's solve
 abbrev pub resultOf : Joint → RigidBody → RigidBody → Run → JointResult

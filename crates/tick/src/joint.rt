@@ -5,8 +5,8 @@ ghost use Rattle.scalar.specs.Scalar.{isFinite};
 ghost use Rattle.joints.specs.declared.Joint.the-variants as kind;
 ghost use Rattle.numbers.specs.Lists.{all};
 ghost use Rattle.state.specs.State.{totalsNumbers};
-ghost use Rattle.tick.specs.Joint.{dominatedOf, armNumbers, pointNumbers, axisNumbers};
-ghost use Rattle.tick.specs.Parts.{preparedWith, testedOf, warmedWith, jointWarmed, jointSolved};
+ghost use Rattle.tick.specs.Joint.{dominatedOf, armNumbers};
+ghost use Rattle.tick.specs.Parts.{pointNumbers, fourNumbers, preparedWith, testedOf, warmedWith, jointWarmed, jointSolved};
 use crate::finite::body_finite;
 use crate::finite::quat_finite;
 use crate::finite::vec3_finite;
@@ -70,7 +70,7 @@ fn point_finite(point: PointConstraintShared) -> bool
 }
 
 fn axes_finite(a1: Vec3, a2: Vec3, b1: Vec3, b2: Vec3) -> bool
-    ensures { λ r. ⌜ r ≡ all isFinite (axisNumbers a1 a2 b1 b2) ⌝ }
+    ensures { λ r. ⌜ r ≡ all isFinite (fourNumbers a1 a2 b1 b2) ⌝ }
 {
     vec3_finite(a1) & vec3_finite(a2) & vec3_finite(b1) & vec3_finite(b2)
 }

@@ -1,15 +1,17 @@
--- Each correction with what it does to the bodies and to a constraint's total, and the two bodies that a function is lent, for the code's own contracts: no reader needs them.
+-- What a point and a fixed angle prepare, each correction with what it does to the bodies and to a constraint's total, and the two bodies that a function is lent, for the code's own contracts: no reader needs them.
 use lib.Ieee.{Float, neg, eq, le}
 use Rattle.scalar.specs.Arith.{if_then_else_, f0, epsilon}
 use Rattle.vector.specs.Vector.{origin, addOf, negOf, scaleOf, divOf, lengthOf, lengthSquaredOf}
-use Rattle.vector.specs.Rotation.{turnOf}
+use Rattle.vector.specs.Rotation.{productOf, inverseOf, turnOf}
 use Rattle.vector.specs.declared.Vec3.{Vec3}
 use Rattle.vector.specs.declared.SymmetricTensor.{SymmetricTensor}
+use Rattle.vector.specs.declared.Quat.{Quat}
+use Rattle.solver_body.specs.declared.RigidBody.{RigidBody}
 use Rattle.solver_body.specs.declared.SolverBody.{SolverBody}
 use Rattle.solver_body.specs.declared.SolverBodyInertia.{SolverBodyInertia}
 use Rattle.solver_body.specs.declared.BodyPair.{BodyPair}
 use Rattle.xpbd.specs.Multiplier.{lagrangeUpdate}
-use Rattle.xpbd.specs.Positional.{impulseApplied, weight, separationOf}
+use Rattle.xpbd.specs.Positional.{impulseApplied, weight, anchorArm, centerDifference, separationOf}
 use Rattle.xpbd.specs.Angular.{angularInverseMass, angularImpulseApplied}
 use Rattle.xpbd.specs.FixedAngle.{rotationDifference}
 use Rattle.xpbd.specs.declared.angular_constraint.Corrected.{Corrected}
@@ -20,6 +22,14 @@ use Rattle.xpbd.specs.declared.fixed_angle_constraint.FixedAngleSolved.{
 
 abbrev pub pair : SolverBody → SolverBody → BodyPair
 pair b₁ b₂ = record { body1 = b₁; body2 = b₂ }
+
+unfoldable pub pointPrepared : RigidBody → RigidBody → Vec3 → Vec3 → PointConstraintShared
+pointPrepared b₁ b₂ anchor₁ anchor₂ =
+    record { «world_r1» = anchorArm b₁ anchor₁; «world_r2» = anchorArm b₂ anchor₂; «center_difference» = centerDifference b₁ b₂; «total_lagrange» = origin }
+
+unfoldable pub anglePrepared : Quat → Quat → Quat → Quat → FixedAngleConstraintShared
+anglePrepared q₁ q₂ basis₁ basis₂ =
+    record { «rotation_difference» = productOf (productOf q₁ basis₁) (inverseOf (productOf q₂ basis₂)); «total_lagrange» = origin }
 
 -- (2) to (4): the impulse p = Δλ n that corrects the error c along n at the arms r₁ and r₂
 unfoldable pub correctionImpulse : SolverBodyInertia → SolverBodyInertia → Vec3 → Vec3 → Vec3 → Float → Float → Float → Vec3

@@ -1,13 +1,11 @@
 -- Each kind's solve, as the code's contracts have it, is the run of its steps.
 use mathlib.Core.Path.{_≡_, refl, sym, ap, _∙_}
 use mathlib.Core.Bool.{Bool, true, false, not}
-use mathlib.Core.List.{List, [], _∷_}
 use lib.Ieee.{Float, neg, eq, le}
 use Rattle.scalar.specs.Arith.{if_then_else_, f0, epsilon, pi}
 use Rattle.vector.specs.Vector.{origin, scaleOf, crossOf, lengthOf, lengthSquaredOf}
 use Rattle.vector.specs.Rotation.{turnOf}
 use Rattle.vector.specs.declared.Vec3.{Vec3}
-use Rattle.vector.specs.declared.Quat.{Quat}
 use Rattle.vector.specs.declared.SymmetricTensor.{SymmetricTensor}
 use Rattle.joints.specs.Limit.{distanceCorrection, angleCorrection}
 use Rattle.joints.specs.declared.Joint.the-variants as kind
@@ -29,31 +27,26 @@ use Rattle.solver_body.specs.declared.RigidBody.{RigidBody}
 use Rattle.solver_body.specs.declared.SolverBodyInertia.{SolverBodyInertia}
 use Rattle.solver_body.specs.declared.BodyPair.{BodyPair}
 use Rattle.xpbd.specs.Multiplier.{lagrangeUpdate}
-use Rattle.xpbd.specs.Positional.{weight, impulseApplied, separationOf}
+use Rattle.xpbd.specs.Positional.{weight, separationOf}
 use Rattle.xpbd.specs.Angular.{angularImpulseApplied}
-use Rattle.xpbd.specs.Point.{pointPrepared}
-use Rattle.xpbd.specs.FixedAngle.{rotationDifference, anglePrepared}
+use Rattle.xpbd.specs.Parts.{pointPrepared, anglePrepared}
+use Rattle.xpbd.specs.FixedAngle.{rotationDifference}
 use Rattle.xpbd.specs.Parts.{correctionImpulse, positionCorrected, aligned, pointSolved, angleCorrected, angleSolved}
 use Rattle.xpbd.specs.declared.angular_constraint.Corrected.{Corrected}
 use Rattle.xpbd.specs.declared.point_constraint.PointConstraintShared.{PointConstraintShared}
 use Rattle.xpbd.specs.declared.point_constraint.PointSolved.{PointSolved}
 use Rattle.xpbd.specs.declared.fixed_angle_constraint.FixedAngleConstraintShared.{FixedAngleConstraintShared}
 use Rattle.xpbd.specs.declared.fixed_angle_constraint.FixedAngleSolved.{FixedAngleSolved}
-use Rattle.xpbd_joints.specs.Fixed.{fixedPrepared}
-use Rattle.xpbd_joints.specs.Distance.{distancePrepared}
-use Rattle.xpbd_joints.specs.Revolute.{revolutePrepared, angularMotorGiven}
-use Rattle.xpbd_joints.specs.Prismatic.{prismaticPrepared, linearMotorGiven, slideCorrection}
-use Rattle.xpbd_joints.specs.Spherical.{matrixPoint, sphericalPrepared, swingCorrection, twistCorrection}
-use Rattle.xpbd_joints.specs.Stage.{Reads, point, angle, hingeAlign, hingeLimit, slideAlign, swing, twist, tether, Entry, Correction, limited, limitAsked, asked, Setting, entryOf, correctionOf, multiplierAt, totalChange, afterOf}
-use Rattle.xpbd_joints.specs.Steps.{totals, noTotals, Slot, first, second, third, fourth, added, Step, compliant, hingeMotor, slideMotor, pointOf, stepsOf, Run, stageAt, uncalled, hingeDriven, slideDriven, stepped, run}
+use Rattle.xpbd_joints.specs.Solved.{fixedPrepared, distancePrepared, revolutePrepared, prismaticPrepared, matrixPoint, sphericalPrepared}
+use Rattle.xpbd_joints.specs.Revolute.{angularMotorGiven}
+use Rattle.xpbd_joints.specs.Prismatic.{linearMotorGiven, slideCorrection}
+use Rattle.xpbd_joints.specs.Spherical.{swingCorrection, twistCorrection}
+use Rattle.xpbd_joints.specs.Stage.{Reads, point, angle, hingeAlign, hingeLimit, slideAlign, swing, twist, Entry, Correction, limitAsked, Setting, entryOf, correctionOf, multiplierAt, totalChange, afterOf}
+use Rattle.xpbd_joints.specs.Steps.{totals, noTotals, Slot, first, second, third, fourth, added, Step, compliant, hingeMotor, slideMotor, stepsOf, Run, stageAt, uncalled, hingeDriven, slideDriven, stepped, run}
 use Rattle.xpbd_joints.specs.Solved.{settingOf, withTotal, alignStage, limitStage, fixedSolved, distanceSolved, axesStage, drivenBy, motorStage, angleLimitStage, revoluteSolved, drivenAlong, linearMotorStage, positionStage, prismaticSolved, swingStage, twistStage, sphericalSolved}
 use Rattle.xpbd_joints.specs.declared.JointTotals.{JointTotals}
 use Rattle.xpbd_joints.specs.declared.StageSolved.{StageSolved}
-use Rattle.xpbd_joints.specs.declared.fixed.FixedSolved.{FixedSolved}
-use Rattle.xpbd_joints.specs.declared.revolute.RevoluteSolved.{RevoluteSolved}
-use Rattle.xpbd_joints.specs.declared.prismatic.PrismaticSolved.{PrismaticSolved}
 use Rattle.xpbd_joints.specs.declared.prismatic.Driven.{Driven}
-use Rattle.xpbd_joints.specs.declared.spherical.SphericalSolved.{SphericalSolved}
 use Rattle.xpbd_joints.specs.declared.distance.DistanceSolved.{DistanceSolved}
 
 -- f of a choice
@@ -99,6 +92,9 @@ placed first t a = refl
 placed second t a = refl
 placed third t a = refl
 placed fourth t a = refl
+
+abbrev pointReads : PointConstraintShared → Reads
+pointReads p = point (p .«world_r1») (p .«world_r2») (p .«center_difference»)
 
 abbrev pointRun : JointTotals → PointSolved → Run
 pointRun t p = from (p .bodies) (put first (p .constraint .«total_lagrange») t)
@@ -184,7 +180,7 @@ module _ (i₁ i₂ : SolverBodyInertia) (h : Float) where
       separationOf (b .body1 .«delta_position») (b .body2 .«delta_position») (turnOf (b .body1 .«delta_rotation») r₁) (turnOf (b .body2 .«delta_rotation») r₂) d
 
   point-is : (c : PointConstraintShared) (α : Float) (b : BodyPair) (t : JointTotals) → c .«total_lagrange» ≡ t .first
-      → stepped S (compliant first (pointOf c) α) (from b t) ≡ pointRun t (pointSolved c b i₁ i₂ α h)
+      → stepped S (compliant first (pointReads c) α) (from b t) ≡ pointRun t (pointSolved c b i₁ i₂ α h)
   unfolding pointSolved correctionImpulse positionCorrected weight correctionOf afterOf totalChange multiplierAt
   point-is c α b t e =
       let v = eq (lengthSquaredOf (apart b (c .«world_r1») (c .«world_r2») (c .«center_difference»))) f0 in
@@ -241,7 +237,7 @@ module _ (i₁ i₂ : SolverBodyInertia) (h : Float) where
     fixed-is j =
         let k = fixedPrepared j b₁ b₂ in
         let s = angleSolved (k .«angle_constraint») b I₁ I₂ (j .«angle_compliance») h in
-        ap (stepped S (compliant first (pointOf (k .«point_constraint»)) (j .«point_compliance»)))
+        ap (stepped S (compliant first (pointReads (k .«point_constraint»)) (j .«point_compliance»)))
         (angle-is (k .«angle_constraint») (j .«angle_compliance») b noTotals refl)
         ∙ point-is (k .«point_constraint») (j .«point_compliance») (s .bodies) (angleRun noTotals s .totals) refl
 
@@ -253,7 +249,7 @@ module _ (i₁ i₂ : SolverBodyInertia) (h : Float) where
     unfolding run stepsOf revoluteSolved revolutePrepared pointPrepared
     revolute-is j =
         let k = revolutePrepared j b₁ b₂ in
-        let point : Step = compliant first (pointOf (k .«point_constraint»)) (j .«point_compliance») in
+        let point : Step = compliant first (pointReads (k .«point_constraint»)) (j .«point_compliance») in
         let limit : Step = compliant third (hingeLimit (j .«angle_limit») (k .a1) (k .b1) (k .b2)) (j .«limit_compliance») in
         let motor : Step = hingeMotor (j .motor) (k .a1) (k .b1) (k .b2) in
         let align = axesStage b I₁ I₂ (k .a1) (k .a2) origin (j .«align_compliance») h in

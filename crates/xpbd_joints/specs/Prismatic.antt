@@ -1,9 +1,9 @@
 -- What a prismatic joint prepares, its motor's warm start and what its motor gives, all the Rust's own; and the correction of its positions: Müller 2020, equation (25), along three axes, the limit's with the others. Definitions only.
 use mathlib.Core.Bool.{not}
 use lib.Ieee.{Float}
-use Rattle.scalar.specs.Arith.{if_then_else_, _⊕_, _⊖_, _⊗_, f0}
+use Rattle.scalar.specs.Arith.{if_then_else_, _⊕_, _⊖_, _⊗_}
 use Rattle.vector.specs.Vector.{origin, addOf, subOf, scaleOf, timesOf, dotOf, crossOf, anyOrthogonal}
-use Rattle.vector.specs.Rotation.{productOf, turnOf}
+use Rattle.vector.specs.Rotation.{turnOf}
 use Rattle.vector.specs.Matrix.{tensorTimes}
 use Rattle.vector.specs.declared.Vec3.{Vec3}
 use Rattle.vector.specs.declared.SymmetricTensor.{SymmetricTensor}
@@ -13,26 +13,10 @@ use Rattle.joints.specs.declared.DistanceLimitOption.{DistanceLimitOption}
 use Rattle.joints.specs.declared.DistanceLimitOption.the-variants.{Unlimited, Limited}
 use Rattle.joints.specs.declared.motor.LinearMotor.{LinearMotor}
 use Rattle.joints.specs.declared.motor.MotorLagrange.{MotorLagrange}
-use Rattle.joints.specs.declared.prismatic.PrismaticJoint.{PrismaticJoint}
 use Rattle.solver_body.specs.Body.{withVelocity, effectiveInvMass}
-use Rattle.solver_body.specs.declared.RigidBody.{RigidBody}
 use Rattle.solver_body.specs.declared.SolverBodyInertia.{SolverBodyInertia}
 use Rattle.solver_body.specs.declared.BodyPair.{BodyPair}
-use Rattle.xpbd.specs.Positional.{weight, anchorArm, centerDifference, separationOf}
-use Rattle.xpbd.specs.FixedAngle.{anglePrepared}
-use Rattle.xpbd_joints.specs.declared.prismatic.PrismaticJointSolverData.{PrismaticJointSolverData}
-
-unfoldable pub prismaticPrepared : PrismaticJoint → RigidBody → RigidBody → PrismaticJointSolverData
-prismaticPrepared j b₁ b₂ =
-    record {
-      «world_r1» = anchorArm b₁ (j .frame1 .anchor);
-      «world_r2» = anchorArm b₂ (j .frame2 .anchor);
-      «center_difference» = centerDifference b₁ b₂;
-      «free_axis1» = turnOf (productOf (b₁ .rotation) (j .frame1 .basis)) (j .«slider_axis»);
-      «total_position_lagrange» = origin;
-      «angle_constraint» = anglePrepared (b₁ .rotation) (b₂ .rotation) (j .frame1 .basis) (j .frame2 .basis);
-      «total_motor_lagrange» = f0;
-    }
+use Rattle.xpbd.specs.Positional.{weight, separationOf}
 
 -- the velocities changed by ∓ m⁻¹ p and ∓ I⁻¹ (r × p)
 unfoldable pub pushedBy : BodyPair → Vec3 → Vec3 → SymmetricTensor → SymmetricTensor → Vec3 → Vec3 → Vec3 → BodyPair

@@ -4,38 +4,17 @@ use lib.Ieee.{Float}
 use Rattle.scalar.specs.Arith.{if_then_else_, _⊕_, _⊖_, pi, tau}
 use Rattle.scalar.specs.Scalar.{remEuclidOf}
 use Rattle.trig.specs.Arctangent.{atan2Of}
-use Rattle.vector.specs.Vector.{origin, addOf, subOf, scaleOf, dotOf, crossOf, anyOrthonormal}
-use Rattle.vector.specs.Rotation.{productOf, turnOf}
+use Rattle.vector.specs.Vector.{addOf, subOf, scaleOf, dotOf, crossOf}
+use Rattle.vector.specs.Rotation.{turnOf}
 use Rattle.vector.specs.Matrix.{tensorTimes}
 use Rattle.vector.specs.declared.Vec3.{Vec3}
 use Rattle.vector.specs.declared.SymmetricTensor.{SymmetricTensor}
 use Rattle.joints.specs.Motor.{motorLagrange, unlessOff}
 use Rattle.joints.specs.declared.motor.AngularMotor.{AngularMotor}
 use Rattle.joints.specs.declared.motor.MotorLagrange.{MotorLagrange}
-use Rattle.joints.specs.declared.revolute.RevoluteJoint.{RevoluteJoint}
 use Rattle.solver_body.specs.Body.{withVelocity}
-use Rattle.solver_body.specs.declared.RigidBody.{RigidBody}
 use Rattle.solver_body.specs.declared.BodyPair.{BodyPair}
 use Rattle.xpbd.specs.Angular.{angularInverseMass}
-use Rattle.xpbd.specs.Point.{pointPrepared}
-use Rattle.xpbd_joints.specs.declared.revolute.RevoluteJointSolverData.{RevoluteJointSolverData}
-
--- the axis a and, at a right angle to it, b, in both bodies
-unfoldable pub revolutePrepared : RevoluteJoint → RigidBody → RigidBody → RevoluteJointSolverData
-revolutePrepared j b₁ b₂ =
-    let q₁ = productOf (b₁ .rotation) (j .frame1 .basis) in
-    let q₂ = productOf (b₂ .rotation) (j .frame2 .basis) in
-    let b = anyOrthonormal (j .«hinge_axis») in
-    record {
-      «point_constraint» = pointPrepared b₁ b₂ (j .frame1 .anchor) (j .frame2 .anchor);
-      a1 = turnOf q₁ (j .«hinge_axis»);
-      a2 = turnOf q₂ (j .«hinge_axis»);
-      b1 = turnOf q₁ b;
-      b2 = turnOf q₂ b;
-      «total_align_lagrange» = origin;
-      «total_limit_lagrange» = origin;
-      «total_motor_lagrange» = origin;
-    }
 
 -- the angular velocities changed by ∓ I⁻¹ p
 unfoldable pub spun : BodyPair → SymmetricTensor → SymmetricTensor → Vec3 → BodyPair

@@ -1,9 +1,11 @@
--- Each stage with its total, and each kind's solve as one composition of its stages, for the code's own contracts: Steps.antt, which readers go by, needs none of it.
+-- What each kind prepares, each stage with its total, and each kind's solve as one composition of its stages, for the code's own contracts: Steps.antt, which readers go by, needs none of it.
 use mathlib.Core.Bool.{true}
 use lib.Ieee.{Float, neg, le}
-use Rattle.scalar.specs.Arith.{if_then_else_, _⊕_, epsilon, pi}
-use Rattle.vector.specs.Vector.{addOf, negOf, scaleOf, divOf, crossOf, lengthOf}
-use Rattle.vector.specs.Rotation.{turnOf}
+use Rattle.scalar.specs.Arith.{if_then_else_, _⊕_, f0, epsilon, pi}
+use Rattle.vector.specs.Vector.{origin, addOf, subOf, negOf, scaleOf, divOf, crossOf, lengthOf, anyOrthonormal}
+use Rattle.vector.specs.Rotation.{productOf, turnOf}
+use Rattle.vector.specs.Matrix.{ofQuat, matrixTimes}
+use Rattle.vector.specs.declared.Mat3.{Mat3}
 use Rattle.vector.specs.declared.Vec3.{Vec3}
 use Rattle.vector.specs.declared.SymmetricTensor.{SymmetricTensor}
 use Rattle.joints.specs.Limit.{distanceCorrection, angleCorrection}
@@ -24,14 +26,14 @@ use Rattle.joints.specs.declared.distance.DistanceJoint.{DistanceJoint}
 use Rattle.solver_body.specs.declared.RigidBody.{RigidBody}
 use Rattle.solver_body.specs.declared.SolverBodyInertia.{SolverBodyInertia}
 use Rattle.solver_body.specs.declared.BodyPair.{BodyPair}
-use Rattle.xpbd.specs.Positional.{impulseApplied, separationOf}
+use Rattle.xpbd.specs.Positional.{impulseApplied, anchorArm, centerDifference, separationOf}
 use Rattle.xpbd.specs.Angular.{angularImpulseApplied}
-use Rattle.xpbd.specs.Parts.{positionCorrected, aligned, pointSolved, angleSolved}
+use Rattle.xpbd.specs.Parts.{pointPrepared, anglePrepared, positionCorrected, aligned, pointSolved, angleSolved}
 use Rattle.xpbd.specs.declared.angular_constraint.Corrected.{Corrected}
 use Rattle.xpbd.specs.declared.point_constraint.PointConstraintShared.{PointConstraintShared}
 use Rattle.xpbd.specs.declared.fixed_angle_constraint.FixedAngleConstraintShared.{FixedAngleConstraintShared}
 use Rattle.xpbd_joints.specs.Revolute.{angularMotorGiven}
-use Rattle.xpbd_joints.specs.Prismatic.{prismaticPrepared, prismaticWarmed, linearMotorGiven, slideCorrection}
+use Rattle.xpbd_joints.specs.Prismatic.{prismaticWarmed, linearMotorGiven, slideCorrection}
 use Rattle.xpbd_joints.specs.Spherical.{swingCorrection, twistCorrection}
 use Rattle.xpbd_joints.specs.Stage.{Setting}
 use Rattle.xpbd_joints.specs.declared.StageSolved.{StageSolved}
@@ -46,6 +48,80 @@ use Rattle.xpbd_joints.specs.declared.prismatic.PrismaticSolved.{Prismat
 use Rattle.xpbd_joints.specs.declared.prismatic.Driven.{Driven}
 use Rattle.xpbd_joints.specs.declared.spherical.SphericalJointSolverData.{SphericalJointSolverData}
 use Rattle.xpbd_joints.specs.declared.spherical.SphericalSolved.{SphericalSolved}
+
+-- ---- what each kind prepares
+
+unfoldable pub fixedPrepared : FixedJoint → RigidBody → RigidBody → FixedJointSolverData
+fixedPrepared j b₁ b₂ =
+    record {
+      «point_constraint» = pointPrepared b₁ b₂ (j .frame1 .anchor) (j .frame2 .anchor);
+      «angle_constraint» = anglePrepared (b₁ .rotation) (b₂ .rotation) (j .frame1 .basis) (j .frame2 .basis);
+    }
+
+unfoldable pub distancePrepared : DistanceJoint → RigidBody → RigidBody → DistanceJointSolverData
+distancePrepared j b₁ b₂ =
+    record {
+      «world_r1» = anchorArm b₁ (j .anchor1);
+      «world_r2» = anchorArm b₂ (j .anchor2);
+      «center_difference» = centerDifference b₁ b₂;
+      «total_lagrange» = origin;
+    }
+
+-- the axis a and, at a right angle to it, b, in both bodies
+unfoldable pub revolutePrepared : RevoluteJoint → RigidBody → RigidBody → RevoluteJointSolverData
+revolutePrepared j b₁ b₂ =
+    let q₁ = productOf (b₁ .rotation) (j .frame1 .basis) in
+    let q₂ = productOf (b₂ .rotation) (j .frame2 .basis) in
+    let b = anyOrthonormal (j .«hinge_axis») in
+    record {
+      «point_constraint» = pointPrepared b₁ b₂ (j .frame1 .anchor) (j .frame2 .anchor);
+      a1 = turnOf q₁ (j .«hinge_axis»);
+      a2 = turnOf q₂ (j .«hinge_axis»);
+      b1 = turnOf q₁ b;
+      b2 = turnOf q₂ b;
+      «total_align_lagrange» = origin;
+      «total_limit_lagrange» = origin;
+      «total_motor_lagrange» = origin;
+    }
+
+unfoldable pub prismaticPrepared : PrismaticJoint → RigidBody → RigidBody → PrismaticJointSolverData
+prismaticPrepared j b₁ b₂ =
+    record {
+      «world_r1» = anchorArm b₁ (j .frame1 .anchor);
+      «world_r2» = anchorArm b₂ (j .frame2 .anchor);
+      «center_difference» = centerDifference b₁ b₂;
+      «free_axis1» = turnOf (productOf (b₁ .rotation) (j .frame1 .basis)) (j .«slider_axis»);
+      «total_position_lagrange» = origin;
+      «angle_constraint» = anglePrepared (b₁ .rotation) (b₂ .rotation) (j .frame1 .basis) (j .frame2 .basis);
+      «total_motor_lagrange» = f0;
+    }
+
+-- the arms are turned by the matrices M₁ and M₂
+unfoldable pub matrixPoint : RigidBody → RigidBody → Mat3 → Mat3 → Vec3 → Vec3 → PointConstraintShared
+matrixPoint b₁ b₂ M₁ M₂ anchor₁ anchor₂ =
+    record {
+      «world_r1» = matrixTimes M₁ (subOf anchor₁ (b₁ .«center_of_mass»));
+      «world_r2» = matrixTimes M₂ (subOf anchor₂ (b₂ .«center_of_mass»));
+      «center_difference» = centerDifference b₁ b₂;
+      «total_lagrange» = origin;
+    }
+
+unfoldable pub sphericalPrepared : SphericalJoint → RigidBody → RigidBody → SphericalJointSolverData
+sphericalPrepared j b₁ b₂ =
+    let M₁ = ofQuat (b₁ .rotation) in
+    let M₂ = ofQuat (b₂ .rotation) in
+    let swing = anyOrthonormal (j .«twist_axis») in
+    record {
+      «point_constraint» = matrixPoint b₁ b₂ M₁ M₂ (j .frame1 .anchor) (j .frame2 .anchor);
+      «swing_axis1» = matrixTimes M₁ (turnOf (j .frame1 .basis) swing);
+      «swing_axis2» = matrixTimes M₂ (turnOf (j .frame2 .basis) swing);
+      «twist_axis1» = matrixTimes M₁ (turnOf (j .frame1 .basis) (j .«twist_axis»));
+      «twist_axis2» = matrixTimes M₂ (turnOf (j .frame2 .basis) (j .«twist_axis»));
+      «total_swing_lagrange» = origin;
+      «total_twist_lagrange» = origin;
+    }
+
+-- ---- stages
 
 -- one with motors
 abbrev pub settingOf : SolverBodyInertia → SolverBodyInertia → Float → Setting

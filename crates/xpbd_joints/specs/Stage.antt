@@ -16,6 +16,7 @@ use Rattle.joints.specs.declared.AngleLimitOption.the-variants.{Unlimited, Limi
 use Rattle.joints.specs.declared.AngleCorrection.{AngleCorrection}
 use Rattle.joints.specs.declared.AngleCorrection.the-variants.{None, Some}
 use Rattle.solver_body.specs.Body.{effectiveInvMass}
+use Rattle.solver_body.specs.declared.SolverBody.{SolverBody}
 use Rattle.solver_body.specs.declared.SolverBodyInertia.{SolverBodyInertia}
 use Rattle.solver_body.specs.declared.BodyPair.{BodyPair}
 use Rattle.xpbd.specs.Multiplier.{lagrangeUpdate}
@@ -47,18 +48,19 @@ positional (swing l a b) = false
 positional (twist l a b c d) = false
 positional (tether l a b d) = true
 
--- all that a stage reads but its compliance: beside the above, dt, and of each body its displacement, its turn, its inverse mass along each axis and its inverse inertia
+-- of a body: its displacement, its turn, its inverse mass along each axis and its inverse inertia
+pub record Placed : Type 0 where
+  pub x : Vec3
+  pub q : Quat
+  pub m : Vec3
+  pub I : SymmetricTensor
+
+-- all that a stage reads but its compliance
 pub record Entry : Type 0 where
   pub reads : Reads
   pub dt : Float
-  pub x₁ : Vec3
-  pub x₂ : Vec3
-  pub q₁ : Quat
-  pub q₂ : Quat
-  pub m₁ : Vec3
-  pub m₂ : Vec3
-  pub I₁ : SymmetricTensor
-  pub I₂ : SymmetricTensor
+  pub b₁ : Placed
+  pub b₂ : Placed
 
 -- What an entry asks for. `called`: the stage doesn't return before the update. `still`: where it does, it does nothing; else it adds zero to its total.
 -- `error`, `w₁`, `w₂`: what the update gets. `n`: the impulse's direction. `r₁`, `r₂`: the arms of a position stage.
@@ -79,30 +81,30 @@ limited (Limited l) correction = correction l
 
 module _ (e : Entry) where
   abbrev pub turned₁ : Vec3 → Vec3
-  turned₁ v = turnOf (e .q₁) v
+  turned₁ v = turnOf (e .b₁ .q) v
 
   abbrev pub turned₂ : Vec3 → Vec3
-  turned₂ v = turnOf (e .q₂) v
+  turned₂ v = turnOf (e .b₂ .q) v
 
   -- from the first anchor to the second
   abbrev pub separation : Vec3 → Vec3 → Vec3 → Vec3
-  separation a b d = separationOf (e .x₁) (e .x₂) (turned₁ a) (turned₂ b) d
+  separation a b d = separationOf (e .b₁ .x) (e .b₂ .x) (turned₁ a) (turned₂ b) d
 
   -- Müller 2020, (2) to (9): along n, by the error c, at the arms a and b
   abbrev pub positionAsked : Bool → Vec3 → Vec3 → Vec3 → Float → Correction
   positionAsked called a b n c =
       let r₁ = turned₁ a in
       let r₂ = turned₂ b in
-      let w₁ = generalizedInverseMass (maxElement (e .m₁)) (e .I₁) r₁ n in
-      let w₂ = generalizedInverseMass (maxElement (e .m₂)) (e .I₂) r₂ n in
+      let w₁ = generalizedInverseMass (maxElement (e .b₁ .m)) (e .b₁ .I) r₁ n in
+      let w₂ = generalizedInverseMass (maxElement (e .b₂ .m)) (e .b₂ .I) r₂ n in
       record { called = called; still = true; error = c; w₁ = w₁; w₂ = w₂; n = n; r₁ = r₁; r₂ = r₂ }
 
   -- (11) to (16): about d, whose length is the error
   abbrev pub rotationAsked : Vec3 → Correction
   rotationAsked d =
       let n = divOf d (lengthOf d) in
-      let w₁ = angularInverseMass (e .I₁) n in
-      let w₂ = angularInverseMass (e .I₂) n in
+      let w₁ = angularInverseMass (e .b₁ .I) n in
+      let w₂ = angularInverseMass (e .b₂ .I) n in
       record { called = not (le (lengthOf d) epsilon); still = false; error = lengthOf d; w₁ = w₁; w₂ = w₂; n = n; r₁ = origin; r₂ = origin }
 
   abbrev pub limitAsked : AngleCorrection → Correction
@@ -113,7 +115,7 @@ module _ (e : Entry) where
   asked (point a b d) =
       let s = separation a b d in
       positionAsked (not (eq (lengthSquaredOf s) f0)) a b (divOf (negOf s) (lengthOf s)) (lengthOf s)
-  asked (angle q) = rotationAsked (rotationDifference q (e .q₁) (e .q₂))
+  asked (angle q) = rotationAsked (rotationDifference q (e .b₁ .q) (e .b₂ .q))
   -- (20)
   asked (hingeAlign a₁ a₂) = rotationAsked (crossOf (turned₁ a₁) (turned₂ a₂))
   asked (hingeLimit o a₁ b₁ b₂) = limitAsked (limited o (λ l. angleCorrection l (turned₁ a₁) (turned₁ b₁) (turned₂ b₂) pi))
@@ -139,24 +141,13 @@ pub record Stage : Type 0 where
   pub bodies : BodyPair
   pub compliance : Float
 
+abbrev pub placed : SolverBody → SolverBodyInertia → Placed
+placed b i = record { x = b .«delta_position»; q = b .«delta_rotation»; m = effectiveInvMass i; I = i .«inv_angular_inertia» }
+
 abbrev pub entryOf : Stage → Entry
 entryOf s =
-    let b₁ = s .bodies .body1 in
-    let b₂ = s .bodies .body2 in
-    let i₁ = s .setting .inertia1 in
-    let i₂ = s .setting .inertia2 in
-    record {
-      reads = s .reads;
-      dt = s .setting .dt;
-      x₁ = b₁ .«delta_position»;
-      x₂ = b₂ .«delta_position»;
-      q₁ = b₁ .«delta_rotation»;
-      q₂ = b₂ .«delta_rotation»;
-      m₁ = effectiveInvMass i₁;
-      m₂ = effectiveInvMass i₂;
-      I₁ = i₁ .«inv_angular_inertia»;
-      I₂ = i₂ .«inv_angular_inertia»;
-    }
+    let S = s .setting in
+    record { reads = s .reads; dt = S .dt; b₁ = placed (s .bodies .body1) (S .inertia1); b₂ = placed (s .bodies .body2) (S .inertia2) }
 
 unfoldable pub correctionOf : Entry → Correction
 correctionOf e = asked e (e .reads)

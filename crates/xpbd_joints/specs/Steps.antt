@@ -3,7 +3,7 @@ use mathlib.Core.Bool.{Bool, true, false}
 use mathlib.Core.List.{List, [], _∷_, _++_}
 use lib.Ieee.{Float, neg}
 use Rattle.scalar.specs.Arith.{if_then_else_, _⊕_, _⊘_, f0}
-use Rattle.vector.specs.Vector.{origin, addOf, negOf, scaleOf, divOf}
+use Rattle.vector.specs.Vector.{origin, addOf, negOf, scaleOf, divOf, anyOrthonormal}
 use Rattle.vector.specs.Rotation.{turnOf}
 use Rattle.vector.specs.declared.Vec3.{Vec3}
 use Rattle.joints.specs.declared.Joint.{Joint}
@@ -14,14 +14,11 @@ use Rattle.joints.specs.declared.motor.MotorLagrange.{MotorLagrange}
 use Rattle.joints.specs.declared.motor.MotorLagrange.the-variants.{None, Some}
 use Rattle.solver_body.specs.declared.RigidBody.{RigidBody}
 use Rattle.solver_body.specs.declared.BodyPair.{BodyPair}
-use Rattle.xpbd.specs.Positional.{impulseApplied}
+use Rattle.xpbd.specs.Positional.{impulseApplied, anchorArm, centerDifference}
 use Rattle.xpbd.specs.Angular.{angularImpulseApplied}
-use Rattle.xpbd.specs.declared.point_constraint.PointConstraintShared.{PointConstraintShared}
-use Rattle.xpbd_joints.specs.Fixed.{fixedPrepared}
-use Rattle.xpbd_joints.specs.Distance.{distancePrepared}
-use Rattle.xpbd_joints.specs.Revolute.{revolutePrepared, revoluteWarmed, angularMotorGiven}
-use Rattle.xpbd_joints.specs.Prismatic.{prismaticPrepared, prismaticWarmed, linearMotorGiven}
-use Rattle.xpbd_joints.specs.Spherical.{sphericalPrepared}
+use Rattle.xpbd_joints.specs.Revolute.{revoluteWarmed, angularMotorGiven}
+use Rattle.xpbd_joints.specs.Prismatic.{prismaticWarmed, linearMotorGiven}
+use Rattle.xpbd_joints.specs.Prepared.{offset, axisIn, matrixArm, matrixAxis}
 use Rattle.xpbd_joints.specs.Stage.{Reads, point, angle, hingeAlign, hingeLimit, slideAlign, swing, twist, tether, Setting, Stage, entryOf, correctionOf, totalChange, afterOf}
 use Rattle.xpbd_joints.specs.declared.JointTotals.{JointTotals}
 
@@ -52,38 +49,40 @@ pub data Step : Type 0 where
   hingeMotor : AngularMotor → Vec3 → Vec3 → Vec3 → Step
   slideMotor : LinearMotor → Vec3 → Vec3 → Vec3 → Vec3 → Step
 
-abbrev pub pointOf : PointConstraintShared → Reads
-pointOf p = point (p .«world_r1») (p .«world_r2») (p .«center_difference»)
-
--- in order, prepared where the bodies are
+-- in order, where the bodies are
 unfoldable pub stepsOf : Joint → RigidBody → RigidBody → List Step
 stepsOf (Fixed j) b₁ b₂ =
-    let k = fixedPrepared j b₁ b₂ in
-    compliant second (angle (k .«angle_constraint» .«rotation_difference»)) (j .«angle_compliance»)
-    ∷ compliant first (pointOf (k .«point_constraint»)) (j .«point_compliance»)
+    compliant second (angle (offset b₁ b₂ (j .frame1) (j .frame2))) (j .«angle_compliance»)
+    ∷ compliant first (point (anchorArm b₁ (j .frame1 .anchor)) (anchorArm b₂ (j .frame2 .anchor)) (centerDifference b₁ b₂)) (j .«point_compliance»)
     ∷ []
 stepsOf (Revolute j) b₁ b₂ =
-    let k = revolutePrepared j b₁ b₂ in
-    compliant second (hingeAlign (k .a1) (k .a2)) (j .«align_compliance»)
-    ∷ hingeMotor (j .motor) (k .a1) (k .b1) (k .b2)
-    ∷ compliant third (hingeLimit (j .«angle_limit») (k .a1) (k .b1) (k .b2)) (j .«limit_compliance»)
-    ∷ compliant first (pointOf (k .«point_constraint»)) (j .«point_compliance»)
+    let a₁ = axisIn b₁ (j .frame1) (j .«hinge_axis») in
+    let c₁ = axisIn b₁ (j .frame1) (anyOrthonormal (j .«hinge_axis»)) in
+    let c₂ = axisIn b₂ (j .frame2) (anyOrthonormal (j .«hinge_axis»)) in
+    compliant second (hingeAlign a₁ (axisIn b₂ (j .frame2) (j .«hinge_axis»))) (j .«align_compliance»)
+    ∷ hingeMotor (j .motor) a₁ c₁ c₂
+    ∷ compliant third (hingeLimit (j .«angle_limit») a₁ c₁ c₂) (j .«limit_compliance»)
+    ∷ compliant first (point (anchorArm b₁ (j .frame1 .anchor)) (anchorArm b₂ (j .frame2 .anchor)) (centerDifference b₁ b₂)) (j .«point_compliance»)
     ∷ []
 stepsOf (Prismatic j) b₁ b₂ =
-    let k = prismaticPrepared j b₁ b₂ in
-    compliant second (angle (k .«angle_constraint» .«rotation_difference»)) (j .«angle_compliance»)
-    ∷ slideMotor (j .motor) (k .«world_r1») (k .«world_r2») (k .«center_difference») (k .«free_axis1»)
-    ∷ compliant first (slideAlign (j .limits) (k .«world_r1») (k .«world_r2») (k .«center_difference») (k .«free_axis1»)) (j .«align_compliance»)
+    let r₁ = anchorArm b₁ (j .frame1 .anchor) in
+    let r₂ = anchorArm b₂ (j .frame2 .anchor) in
+    let axis = axisIn b₁ (j .frame1) (j .«slider_axis») in
+    compliant second (angle (offset b₁ b₂ (j .frame1) (j .frame2))) (j .«angle_compliance»)
+    ∷ slideMotor (j .motor) r₁ r₂ (centerDifference b₁ b₂) axis
+    ∷ compliant first (slideAlign (j .limits) r₁ r₂ (centerDifference b₁ b₂) axis) (j .«align_compliance»)
     ∷ []
 stepsOf (Spherical j) b₁ b₂ =
-    let k = sphericalPrepared j b₁ b₂ in
-    compliant first (pointOf (k .«point_constraint»)) (j .«point_compliance»)
-    ∷ compliant second (swing (j .«swing_limit») (k .«swing_axis1») (k .«swing_axis2»)) (j .«swing_compliance»)
-    ∷ compliant third (twist (j .«twist_limit») (k .«swing_axis1») (k .«swing_axis2») (k .«twist_axis1») (k .«twist_axis2»)) (j .«twist_compliance»)
+    let swing₁ = matrixAxis b₁ (j .frame1) (anyOrthonormal (j .«twist_axis»)) in
+    let swing₂ = matrixAxis b₂ (j .frame2) (anyOrthonormal (j .«twist_axis»)) in
+    let twist₁ = matrixAxis b₁ (j .frame1) (j .«twist_axis») in
+    let twist₂ = matrixAxis b₂ (j .frame2) (j .«twist_axis») in
+    compliant first (point (matrixArm b₁ (j .frame1 .anchor)) (matrixArm b₂ (j .frame2 .anchor)) (centerDifference b₁ b₂)) (j .«point_compliance»)
+    ∷ compliant second (swing (j .«swing_limit») swing₁ swing₂) (j .«swing_compliance»)
+    ∷ compliant third (twist (j .«twist_limit») swing₁ swing₂ twist₁ twist₂) (j .«twist_compliance»)
     ∷ []
 stepsOf (Distance j) b₁ b₂ =
-    let k = distancePrepared j b₁ b₂ in
-    compliant first (tether (j .limits) (k .«world_r1») (k .«world_r2») (k .«center_difference»)) (j .compliance) ∷ []
+    compliant first (tether (j .limits) (anchorArm b₁ (j .anchor1)) (anchorArm b₂ (j .anchor2)) (centerDifference b₁ b₂)) (j .compliance) ∷ []
 
 -- ---- the solve
 

@@ -20,7 +20,8 @@ use xpbd::positional_constraint::positional_impulse;
 use xpbd::positional_constraint::separation;
 use xpbd::positional_constraint::weight;
 ghost use mathlib.Core.Path.{_≡_};
-ghost use Rattle.xpbd_joints.specs.Prismatic.{prismaticPrepared, pushedBy, freeAxisCorrection, slideCorrection};
+ghost use Rattle.xpbd_joints.specs.Prismatic.{pushedBy, freeAxisCorrection, slideCorrection};
+ghost use Rattle.xpbd_joints.specs.Solved.{prismaticPrepared};
 ghost use Rattle.xpbd_joints.specs.Solved.{prismaticWarmStarted, drivenAlong, linearMotorStage, positionStage, prismaticSolved};
 
 pub struct PrismaticJointSolverData {

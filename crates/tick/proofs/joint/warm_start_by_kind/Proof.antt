@@ -1,12 +1,13 @@
 use borrow.Author.Needs.{needs}
 use Rattle.xpbd_joints.specs.Steps.{stepsOf, warmed}
+use Rattle.xpbd_joints.specs.Solved.{prismaticPrepared}
 use Rattle.tick.specs.Parts.{warmedWith}
 use Rattle.tick.proofs.joint.warm_start_by_kind.Statement.{statement}
 use Rattle.tick.proofs.joint.warm_start_by_kind.Tie as tie
 
 -- only a motor's step warms
 pub warm-start-by-kind-spec : {M : Type 1} → statement M
-unfolding warmedWith stepsOf warmed
+unfolding warmedWith stepsOf warmed prismaticPrepared
 warm-start-by-kind-spec =
     tie.close
     (tie.spec (λ c. search needs) (λ c. search needs) (λ _ _. tt) (λ _ _. tt) (λ c. search needs) (λ _ _. tt) (λ c. search needs) (λ c. search needs)
