@@ -388,7 +388,8 @@ pub struct JointCase {
     pub anchored: u32,
     pub pose1: Pose,
     pub pose2: Pose,
-    pub warm: [f32; 3],
+    /// The motor's total of the last tick; a slide's is in x.
+    pub motor_total: [f32; 3],
     pub motion1: Motion,
     pub motion2: Motion,
     pub inertia1: Inertia,
@@ -468,7 +469,7 @@ impl JointCase {
             numbers.extend(pose.rotation);
             numbers.extend(pose.center_of_mass);
         }
-        numbers.extend(self.warm);
+        numbers.extend(self.motor_total);
         numbers.extend(motion_numbers(&self.motion1));
         numbers.extend(motion_numbers(&self.motion2));
         for inertia in [&self.inertia1, &self.inertia2] {
@@ -512,7 +513,7 @@ impl JointCase {
             anchored: whole(3) as u32,
             pose1: pose_of(&n[30..40]),
             pose2: pose_of(&n[40..50]),
-            warm: n[50..53].try_into().unwrap(),
+            motor_total: n[50..53].try_into().unwrap(),
             motion1: motion_of(&n[53..66]),
             motion2: motion_of(&n[66..79]),
             inertia1: inertia(79, whole(4) as u32, whole(6)),
@@ -667,7 +668,7 @@ pub fn joint_case(random: &mut Random) -> JointCase {
         anchored: random.pick(&[0, 0, 0, 1, 2]),
         pose1,
         pose2,
-        warm: random.small3(2.0),
+        motor_total: random.small3(2.0),
         motion1: motion(random, dt),
         motion2: motion(random, dt),
         inertia1: inertia(random),

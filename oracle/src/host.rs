@@ -256,13 +256,13 @@ pub fn answer(name: &str, x: &[f32]) -> Vec<f32> {
     }
 }
 
-/// The prepared joint, both bodies after the warm start, and the joint and both bodies after the solve.
+/// The prepared numbers, both bodies after the warm start, and what the solve leaves: whether all is finite, the totals and both bodies.
 unsafe fn joint(x: &[f32]) -> Vec<f32> {
     let [kind, limits, motor, anchored] = [0, 1, 2, 3].map(|i| whole(x[i]));
     let [locks1, locks2] = [whole(x[4]), whole(x[5])];
     let [dominance1, dominance2] = [x[6] as i16, x[7] as i16];
     let x = &x[8..];
-    let prepared = call(x, 33, |i, m, o, n| {
+    let prepared = call(x, 21, |i, m, o, n| {
         linkage_prepare(kind, limits, motor, i, m, o, n)
     });
     let warmed = call(x, 26, |i, m, o, n| {
@@ -270,7 +270,7 @@ unsafe fn joint(x: &[f32]) -> Vec<f32> {
             kind, limits, motor, anchored, locks1, locks2, dominance1, dominance2, i, m, o, n,
         )
     });
-    let solved = call(x, 59, |i, m, o, n| {
+    let solved = call(x, 39, |i, m, o, n| {
         linkage_solve(
             kind, limits, motor, anchored, locks1, locks2, dominance1, dominance2, i, m, o, n,
         )

@@ -1,23 +1,23 @@
-// A joint of any kind over the plugin's three steps, the choice by dominance, and the projections.
+// A joint of any kind: its prepared numbers, and the tick's own warm start and solve of it; the tick's choice by dominance, and its projections.
 //
 // A joint's call takes the card's kind, its limit bits (first 1, second 2), its motor, which body is anchored (0 none, 1, 2), both bodies' locks
-// and dominances, and 95 numbers: the joint's 30 in the card's order, two poses (20), the motor's warm value (3), two bodies (26), two inertias
-// (14), the warm coefficient and dt.
+// and dominances, and 95 numbers: the joint's 30 in the card's order, two poses (20), the last tick's motor total (3), two bodies (26), two
+// inertias (14), the warm coefficient and dt.
 use crate::corrections::put_point;
 use crate::limits::angular_motor;
 use crate::limits::linear_motor;
-use crate::numbers::inertia;
-use crate::numbers::number;
-use crate::numbers::put;
-use crate::numbers::put_body_pair;
-use crate::numbers::put_quat;
-use crate::numbers::put_solver_body;
-use crate::numbers::put_tensor;
-use crate::numbers::put_vec3;
-use crate::numbers::quat;
-use crate::numbers::rigid_body;
-use crate::numbers::solver_body;
-use crate::numbers::vec3;
+use crate::slices::inertia;
+use crate::slices::number;
+use crate::slices::put;
+use crate::slices::put_body_pair;
+use crate::slices::put_quat;
+use crate::slices::put_solver_body;
+use crate::slices::put_tensor;
+use crate::slices::put_vec3;
+use crate::slices::quat;
+use crate::slices::rigid_body;
+use crate::slices::solver_body;
+use crate::slices::vec3;
 use joints::AngleLimit;
 use joints::AngleLimitOption;
 use joints::DistanceLimit;
@@ -30,22 +30,21 @@ use joints::prismatic::PrismaticJoint;
 use joints::revolute::RevoluteJoint;
 use joints::spherical::SphericalJoint;
 use solver_body::BodyPair;
+use solver_body::RigidBody;
 use solver_body::SolverBody;
 use solver_body::SolverBodyInertia;
+use tick::body::project_angular_velocity;
+use tick::body::project_linear_velocity;
+use tick::joint::dominated;
+use tick::joint::solve_joint;
+use tick::joint::warm_start_joint;
 use vector::Vec3;
+use xpbd_joints::JointTotals;
 use xpbd_joints::distance::DistanceJointSolverData;
 use xpbd_joints::fixed::FixedJointSolverData;
 use xpbd_joints::prismatic::PrismaticJointSolverData;
 use xpbd_joints::revolute::RevoluteJointSolverData;
 use xpbd_joints::spherical::SphericalJointSolverData;
-use xpbd_plugin::InertiaPair;
-use xpbd_plugin::PreparedJoint;
-use xpbd_plugin::dominated;
-use xpbd_plugin::prepare_xpbd_joint;
-use xpbd_plugin::project_angular_velocity;
-use xpbd_plugin::project_linear_velocity;
-use xpbd_plugin::solve_xpbd_joint;
-use xpbd_plugin::warm_start_xpbd_motors;
 ghost use Prim.Native.Nat.{_<_};
 
 fn angle_limit(limited: bool, input: &[f32], i: usize) -> AngleLimitOption
@@ -160,13 +159,17 @@ fn joint(kind: u32, limits: u32, motor: u32, input: &[f32]) -> Joint {
     }
 }
 
-fn prepared(kind: u32, limits: u32, motor: u32, input: &[f32]) -> PreparedJoint {
-    prepare_xpbd_joint(
-        joint(kind, limits, motor, input),
-        rigid_body(input, 30),
-        rigid_body(input, 40),
-        vec3(input, 50),
-    )
+// The totals of the last tick: all zero but the motor's.
+fn last_totals(kind: u32, input: &[f32]) -> JointTotals {
+    let mut totals = JointTotals::ZERO;
+    let motor_total = vec3(input, 50);
+    if kind == 1 {
+        totals.fourth = motor_total;
+    }
+    if kind == 2 {
+        totals.third = motor_total;
+    }
+    totals
 }
 
 fn body(anchored: bool, input: &[f32], i: usize) -> SolverBody
@@ -202,38 +205,9 @@ fn bodies(anchored: u32, input: &[f32]) -> BodyPair {
     }
 }
 
-fn inertias(
-    anchored: u32,
-    locks1: u32,
-    locks2: u32,
-    dominance1: i16,
-    dominance2: i16,
-    input: &[f32],
-) -> InertiaPair {
-    dominated(
-        body_inertia(anchored == 1, input, 79, locks1, dominance1),
-        body_inertia(anchored == 2, input, 86, locks2, dominance2),
-    )
-}
-
-// The four totals of the card's state.
-fn put_totals(output: &mut [f32], a: Vec3, b: Vec3, c: Vec3, d: Vec3) {
-    put_vec3(output, 21, a);
-    put_vec3(output, 24, b);
-    put_vec3(output, 27, c);
-    put_vec3(output, 30, d);
-}
-
 fn put_fixed(output: &mut [f32], data: FixedJointSolverData) {
     put_point(output, data.point_constraint);
     put_quat(output, 9, data.angle_constraint.rotation_difference);
-    put_totals(
-        output,
-        data.point_constraint.total_lagrange,
-        data.angle_constraint.total_lagrange,
-        Vec3::ZERO,
-        Vec3::ZERO,
-    );
 }
 
 fn put_four(output: &mut [f32], a: Vec3, b: Vec3, c: Vec3, d: Vec3) {
@@ -246,17 +220,6 @@ fn put_four(output: &mut [f32], a: Vec3, b: Vec3, c: Vec3, d: Vec3) {
 fn put_revolute(output: &mut [f32], data: RevoluteJointSolverData) {
     put_point(output, data.point_constraint);
     put_four(output, data.a1, data.a2, data.b1, data.b2);
-    put_totals(
-        output,
-        data.point_constraint.total_lagrange,
-        data.total_align_lagrange,
-        data.total_limit_lagrange,
-        data.total_motor_lagrange,
-    );
-}
-
-fn along_x(x: f32) -> Vec3 {
-    Vec3 { x, y: 0.0, z: 0.0 }
 }
 
 fn put_arms(output: &mut [f32], world_r1: Vec3, world_r2: Vec3, center_difference: Vec3) {
@@ -269,13 +232,6 @@ fn put_prismatic(output: &mut [f32], data: PrismaticJointSolverData) {
     put_arms(output, data.world_r1, data.world_r2, data.center_difference);
     put_vec3(output, 9, data.free_axis1);
     put_quat(output, 12, data.angle_constraint.rotation_difference);
-    put_totals(
-        output,
-        data.total_position_lagrange,
-        data.angle_constraint.total_lagrange,
-        along_x(data.total_motor_lagrange),
-        Vec3::ZERO,
-    );
 }
 
 fn put_spherical(output: &mut [f32], data: SphericalJointSolverData) {
@@ -287,38 +243,36 @@ fn put_spherical(output: &mut [f32], data: SphericalJointSolverData) {
         data.twist_axis1,
         data.twist_axis2,
     );
-    put_totals(
-        output,
-        data.point_constraint.total_lagrange,
-        data.total_swing_lagrange,
-        data.total_twist_lagrange,
-        Vec3::ZERO,
-    );
 }
 
 fn put_distance(output: &mut [f32], data: DistanceJointSolverData) {
     put_arms(output, data.world_r1, data.world_r2, data.center_difference);
-    put_totals(
-        output,
-        data.total_lagrange,
-        Vec3::ZERO,
-        Vec3::ZERO,
-        Vec3::ZERO,
-    );
 }
 
-// The kind's prepared numbers but the warm value, at most 21, the others are left; and from 21 on the four totals of the card's state.
-fn put_joint(output: &mut [f32], joint: PreparedJoint) {
+// The kind's prepared numbers, at most 21; the others are left.
+fn put_prepared(output: &mut [f32], joint: Joint, body1: RigidBody, body2: RigidBody) {
     match joint {
-        PreparedJoint::Fixed(_, data) => put_fixed(output, data),
-        PreparedJoint::Revolute(_, data) => put_revolute(output, data),
-        PreparedJoint::Prismatic(_, data) => put_prismatic(output, data),
-        PreparedJoint::Spherical(_, data) => put_spherical(output, data),
-        PreparedJoint::Distance(_, data) => put_distance(output, data),
+        Joint::Fixed(joint) => put_fixed(output, xpbd_joints::fixed::prepare(joint, body1, body2)),
+        Joint::Revolute(joint) => put_revolute(
+            output,
+            xpbd_joints::revolute::prepare(joint, body1, body2),
+        ),
+        Joint::Prismatic(joint) => put_prismatic(
+            output,
+            xpbd_joints::prismatic::prepare(joint, body1, body2),
+        ),
+        Joint::Spherical(joint) => put_spherical(
+            output,
+            xpbd_joints::spherical::prepare(joint, body1, body2),
+        ),
+        Joint::Distance(joint) => put_distance(
+            output,
+            xpbd_joints::distance::prepare(joint, body1, body2),
+        ),
     }
 }
 
-// The prepared joint (33).
+// The prepared numbers (21).
 #[no_mangle]
 pub extern "C" fn linkage_prepare(
     kind: u32,
@@ -330,14 +284,19 @@ pub extern "C" fn linkage_prepare(
     if input.len() != 95 {
         return 1;
     }
-    if output.len() != 33 {
+    if output.len() != 21 {
         return 1;
     }
-    put_joint(output, prepared(kind, limits, motor, input));
+    put_prepared(
+        output,
+        joint(kind, limits, motor, input),
+        rigid_body(input, 30),
+        rigid_body(input, 40),
+    );
     0
 }
 
-// Both bodies after the warm start of the prepared joint (26).
+// Both bodies after the warm start (26).
 #[no_mangle]
 pub extern "C" fn linkage_warm_start(
     kind: u32,
@@ -357,19 +316,35 @@ pub extern "C" fn linkage_warm_start(
     if output.len() != 26 {
         return 1;
     }
-    let chosen = inertias(anchored, locks1, locks2, dominance1, dominance2, input);
-    let warmed = warm_start_xpbd_motors(
-        prepared(kind, limits, motor, input),
+    let warmed = warm_start_joint(
+        joint(kind, limits, motor, input),
+        rigid_body(input, 30),
+        rigid_body(input, 40),
+        last_totals(kind, input),
         bodies(anchored, input),
-        chosen.inertia1,
-        chosen.inertia2,
+        body_inertia(anchored == 1, input, 79, locks1, dominance1),
+        body_inertia(anchored == 2, input, 86, locks2, dominance2),
         number(input, 93),
+        number(input, 94),
     );
-    put_body_pair(output, 0, warmed.bodies);
+    put_body_pair(output, 0, warmed);
     0
 }
 
-// The joint and both bodies after the solve of the prepared joint (59).
+fn one_where(holds: bool) -> f32 {
+    if holds { 1.0 } else { 0.0 }
+}
+
+fn put_totals(output: &mut [f32], i: usize, totals: JointTotals)
+    requires { ⌜ i < 4000 ⌝ }
+{
+    put_vec3(output, i, totals.first);
+    put_vec3(output, i + 3, totals.second);
+    put_vec3(output, i + 6, totals.third);
+    put_vec3(output, i + 9, totals.fourth);
+}
+
+// 1 where after the solve all numbers that refusal 13 looks at are finite, else 0; the four totals and both bodies (39).
 #[no_mangle]
 pub extern "C" fn linkage_solve(
     kind: u32,
@@ -386,25 +361,22 @@ pub extern "C" fn linkage_solve(
     if input.len() != 95 {
         return 1;
     }
-    if output.len() != 59 {
+    if output.len() != 39 {
         return 1;
     }
-    let chosen = inertias(anchored, locks1, locks2, dominance1, dominance2, input);
-    let solved = solve_xpbd_joint(
-        prepared(kind, limits, motor, input),
+    let solved = solve_joint(
+        joint(kind, limits, motor, input),
+        rigid_body(input, 30),
+        rigid_body(input, 40),
         bodies(anchored, input),
-        chosen.inertia1,
-        chosen.inertia2,
+        body_inertia(anchored == 1, input, 79, locks1, dominance1),
+        body_inertia(anchored == 2, input, 86, locks2, dominance2),
         number(input, 94),
     );
-    let joint_after = solved.joint;
-    put_joint(output, joint_after);
-    put_body_pair(output, 33, solved.bodies);
+    put(output, 0, one_where(solved.finite));
+    put_totals(output, 1, solved.totals);
+    put_body_pair(output, 13, solved.bodies);
     0
-}
-
-fn lock(locked: bool) -> f32 {
-    if locked { 1.0 } else { 0.0 }
 }
 
 // Inverse mass, inverse inertia, the locks as 0 or 1: 10 numbers.
@@ -413,9 +385,9 @@ fn put_inertia(output: &mut [f32], i: usize, body: SolverBodyInertia)
 {
     put(output, i, body.inv_mass);
     put_tensor(output, i + 1, body.inv_angular_inertia);
-    put(output, i + 7, lock(body.translation_x_locked));
-    put(output, i + 8, lock(body.translation_y_locked));
-    put(output, i + 9, lock(body.translation_z_locked));
+    put(output, i + 7, one_where(body.translation_x_locked));
+    put(output, i + 8, one_where(body.translation_y_locked));
+    put(output, i + 9, one_where(body.translation_z_locked));
 }
 
 // Two inertias (14) to the two that dominance leaves (20).

@@ -1,11 +1,11 @@
 // Scalars, vectors and rotations.
-use crate::numbers::number;
-use crate::numbers::put;
-use crate::numbers::put_quat;
-use crate::numbers::put_vec3;
-use crate::numbers::quat;
-use crate::numbers::tensor;
-use crate::numbers::vec3;
+use crate::slices::number;
+use crate::slices::put;
+use crate::slices::put_quat;
+use crate::slices::put_vec3;
+use crate::slices::quat;
+use crate::slices::tensor;
+use crate::slices::vec3;
 use vector::Mat3;
 use vector::Quat;
 use vector::Vec3;

@@ -1,15 +1,15 @@
 // The multiplier, the weights, the impulses and the constraints that the joints share.
-use crate::numbers::body_pair;
-use crate::numbers::inertia;
-use crate::numbers::number;
-use crate::numbers::put;
-use crate::numbers::put_body_pair;
-use crate::numbers::put_quat;
-use crate::numbers::put_vec3;
-use crate::numbers::quat;
-use crate::numbers::rigid_body;
-use crate::numbers::tensor;
-use crate::numbers::vec3;
+use crate::slices::body_pair;
+use crate::slices::inertia;
+use crate::slices::number;
+use crate::slices::put;
+use crate::slices::put_body_pair;
+use crate::slices::put_quat;
+use crate::slices::put_vec3;
+use crate::slices::quat;
+use crate::slices::rigid_body;
+use crate::slices::tensor;
+use crate::slices::vec3;
 use solver_body::BodyPair;
 use xpbd::angular_constraint;
 use xpbd::fixed_angle_constraint::FixedAngleConstraintShared;

@@ -4,4 +4,4 @@ pub mod any_joint;
 pub mod arithmetic;
 pub mod corrections;
 pub mod limits;
-pub mod numbers;
+pub mod slices;

@@ -1,8 +1,8 @@
 // Limits and motors.
-use crate::numbers::number;
-use crate::numbers::put;
-use crate::numbers::put_vec3;
-use crate::numbers::vec3;
+use crate::slices::number;
+use crate::slices::put;
+use crate::slices::put_vec3;
+use crate::slices::vec3;
 use joints::AngleCorrection;
 use joints::AngleLimit;
 use joints::DistanceLimit;

@@ -42,7 +42,7 @@ pub fn integrate(body: SolverBody, inertia: SolverBodyInertia, gravity: f32, dt:
     }
 }
 
-fn project_linear_velocity(
+pub fn project_linear_velocity(
     mut body: SolverBody,
     pre_solve_delta_position: Vec3,
     dt: f32,
@@ -64,7 +64,7 @@ fn angular_change(delta_rot: Quat, dt: f32) -> Vec3
     new_ang_vel
 }
 
-fn project_angular_velocity(
+pub fn project_angular_velocity(
     mut body: SolverBody,
     pre_solve_delta_rotation: Quat,
     dt: f32,

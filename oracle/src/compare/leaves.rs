@@ -980,40 +980,45 @@ fn dummies() -> Leaf {
 
 // ----------------------------------------------------------------------------------------------------------------------------- any joint
 
-/// The numbers of a prepared joint, in 21 places, and its totals.
-fn joint_numbers(prepared: &solver::Prepared) -> Vec<f32> {
-    let mut numbers = prepared.numbers();
-    numbers.resize(21, 0.0);
-    numbers.extend(prepared.totals().concat());
-    numbers
+fn all_finite(numbers: &[f32]) -> bool {
+    numbers.iter().all(|number| number.is_finite())
 }
 
-/// The prepared joint, both bodies after the warm start, the joint and both bodies after the solve.
-fn joint_answer(case: &JointCase) -> Vec<f32> {
-    let joint = case.joint.solver_joint();
-    let body = |anchored: bool, motion: &Motion, inertia: &Inertia| match anchored {
+/// How many prepared numbers a hinge and a ball have; other kinds have fewer.
+const PREPARED: usize = 21;
+
+fn case_body(anchored: bool, motion: &Motion, inertia: &Inertia) -> (Motion, Inertia) {
+    match anchored {
         true => (Motion::DUMMY, Inertia::dummy()),
         false => (*motion, *inertia),
-    };
-    let (motion1, inertia1) = body(case.anchored == 1, &case.motion1, &case.inertia1);
-    let (motion2, inertia2) = body(case.anchored == 2, &case.motion2, &case.inertia2);
+    }
+}
+
+/// The prepared numbers, zeros behind; both bodies after the warm start; after the solve 1 where refusal 13 finds each number of the joint and of both
+/// bodies finite, else 0, the totals and both bodies.
+fn joint_answer(case: &JointCase) -> Vec<f32> {
+    let joint = case.joint.solver_joint();
+    let (motion1, inertia1) = case_body(case.anchored == 1, &case.motion1, &case.inertia1);
+    let (motion2, inertia2) = case_body(case.anchored == 2, &case.motion2, &case.inertia2);
     let (chosen1, chosen2) = solver::choose(&inertia1, &inertia2);
 
-    let mut prepared = solver::prepare(&joint, &case.pose1, &case.pose2, case.warm);
-    let mut answer = joint_numbers(&prepared);
-    let (mut warm1, mut warm2) = (motion1, motion2);
+    let warm_value = case.motor_total.map(|total| total / case.dt);
+    let mut prepared = solver::prepare(&joint, &case.pose1, &case.pose2, warm_value);
+    let mut answer = prepared.numbers();
+    answer.resize(PREPARED, 0.0);
+    let (mut body1, mut body2) = (motion1, motion2);
     solver::warm_start(
         &mut prepared,
-        &mut warm1,
-        &mut warm2,
+        &mut body1,
+        &mut body2,
         &chosen1,
         &chosen2,
         case.warm_coefficient,
     );
-    answer.extend(motion_numbers(&warm1));
-    answer.extend(motion_numbers(&warm2));
+    answer.extend(motion_numbers(&body1));
+    answer.extend(motion_numbers(&body2));
 
-    let mut prepared = solver::prepare(&joint, &case.pose1, &case.pose2, case.warm);
+    // Of the bodies before the warm start.
     let (mut body1, mut body2) = (motion1, motion2);
     solver::solve(
         &mut prepared,
@@ -1023,10 +1028,39 @@ fn joint_answer(case: &JointCase) -> Vec<f32> {
         &chosen2,
         case.dt,
     );
-    answer.extend(joint_numbers(&prepared));
-    answer.extend(motion_numbers(&body1));
-    answer.extend(motion_numbers(&body2));
+    let bodies = [motion_numbers(&body1), motion_numbers(&body2)].concat();
+    let finite = prepared.is_finite() && all_finite(&bodies);
+    answer.push(finite as u32 as f32);
+    answer.extend(prepared.totals().concat());
+    answer.extend(bodies);
     answer
+}
+
+/// What refusal 13 finds after the solve.
+fn finite_classes(kind: &str, of_finite: bool, y: &[f32], hits: &mut Hits) {
+    let solved = &y[PREPARED + 26..];
+    let stopped = solved[0] == 0.0;
+    let prepared = all_finite(&y[..PREPARED]);
+    let totals = all_finite(&solved[1..13]);
+    let bodies = all_finite(&solved[13..]);
+    hits.look(format!("{kind} finite after its solve"), solved[0] == 1.0);
+    hits.look(format!("{kind} not finite after its solve"), stopped);
+    hits.look(
+        format!("{kind} of finite numbers not finite after its solve"),
+        of_finite && stopped,
+    );
+    hits.look(
+        "joint not finite in prepared numbers alone",
+        stopped && totals && bodies,
+    );
+    hits.look(
+        "joint not finite in bodies alone",
+        stopped && prepared && totals,
+    );
+    hits.look(
+        "joint not finite in totals, prepared numbers finite",
+        stopped && prepared && !totals,
+    );
 }
 
 /// What a case reaches is seen by what becomes of the answer when a part is taken away.
@@ -1040,12 +1074,10 @@ fn joint_classes(x: &[f32], y: &[f32], hits: &mut Hits) {
     hits.look("joint with no anchored body", case.anchored == 0);
     hits.look("joint with the first anchored", case.anchored == 1);
     hits.look("joint with the second anchored", case.anchored == 2);
-    let finite = x.iter().all(|x| x.is_finite());
+    let finite = all_finite(x);
     hits.look("joint of wild numbers", !finite);
-    hits.look(
-        "joint with an answer not finite",
-        y.iter().any(|y| !y.is_finite()),
-    );
+    hits.look("joint with an answer not finite", !all_finite(y));
+    finite_classes(kind, finite, y, hits);
     if !finite {
         return;
     }
@@ -1196,10 +1228,9 @@ fn joints() -> Leaf {
     Leaf {
         name: "joints",
         parts: &[
-            ("prepared", 21),
-            ("totals before", 12),
+            ("prepared", PREPARED),
             ("warm started bodies", 26),
-            ("solved", 21),
+            ("finite", 1),
             ("totals", 12),
             ("solved bodies", 26),
         ],
