@@ -24,16 +24,25 @@ loop-holds c = (omega arith, any-none _)
 test : (c : tie.After-outside Inv-loop μ-loop) → let l = c .before .before .before .loop in let a = c .before .before .before .before .before .args in c .outside .result ≡ outsideAt (a .part .now) (a .low) (a .high) (a .at) (l .n)
 unfolding outsideAt floatAt
 test c =
-    let l = c .before .before .before .loop in
-    let a = c .before .before .before .before .before .args in
+    let c1 = c .before in
+    let c3 = c1 .before .before in
+    let c5 = c3 .before .before in
+    let l = c3 .loop in
+    let a = c5 .args in
     let place : 8 * (a .at + 4 * l .n) ≡ 8 * a .at + 32 * l .n = omega arith in
-    c .outside .ensures ∙ ap (λ x. outside x (a .low) (a .high)) (c .before .float-at .ensures ∙ ap (λ p. f32 (bitsAt (a .part .now) p 32)) place)
+    c .outside .ensures ∙ ap (λ x. outside x (a .low) (a .high)) (c1 .float-at .ensures ∙ ap (λ p. f32 (bitsAt (a .part .now) p 32)) place)
 
 returns : tie.Need-returns Inv-loop μ-loop
-returns c = sym (any-some _ _ _ (c .before .before .before .loop-test .taken) (sym (test (c .before)) ∙ c .if1 .taken))
+returns c =
+    let c1 = c .before in
+    let c3 = c1 .before .before in
+    sym (any-some _ _ _ (c3 .loop-test .taken) (sym (test (c1)) ∙ c .if1 .taken))
 
 loop-again : tie.Need-loop-again Inv-loop μ-loop
-loop-again c = (omega arith, any-more _ _ (c .before .before .before .before .loop .inv .1) (sym (test (c .before)) ∙ c .if1 .left))
+loop-again c =
+    let c1 = c .before in
+    let c4 = c1 .before .before .before in
+    (omega arith, any-more _ _ (c4 .loop .inv .1) (sym (test (c1)) ∙ c .if1 .left))
 
 returns-2 : tie.Need-returns-2 Inv-loop μ-loop
 returns-2 c = any-done _ (c .before .loop .inv .1) (omega arith) (omega arith)

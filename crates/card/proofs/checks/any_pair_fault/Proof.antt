@@ -39,7 +39,9 @@ loop-again c =
     )
 
 returns-2 : tie.Need-returns-2 Inv-loop μ-loop
-returns-2 c = ended _ joint1 123 refl _ (c .before .loop .from) (c .before .loop .left) (c .loop-test .left) (c .before .loop .inv .1)
+returns-2 c =
+    let c1 = c .before in
+    ended _ joint1 123 refl _ (c1 .loop .from) (c1 .loop .left) (c .loop-test .left) (c1 .loop .inv .1)
 
 pub any-pair-fault-spec : {M : Type 1} → statement M
 any-pair-fault-spec =

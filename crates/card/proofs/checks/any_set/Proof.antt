@@ -21,18 +21,26 @@ loop-holds c = (omega arith, any-none _)
 -- word n
 word : (c : tie.After-bits32-at Inv-loop μ-loop) → let l = c .before .before .loop in let a = c .before .before .before .before .args in c .bits32-at .result ≡ wordAt (a .part .now) (a .at) (l .n)
 word c =
-    let l = c .before .before .loop in
-    let a = c .before .before .before .before .args in
+    let c2 = c .before .before in
+    let c4 = c2 .before .before in
+    let l = c2 .loop in
+    let a = c4 .args in
     let place : 8 * (a .at + 4 * l .n) ≡ 8 * a .at + 32 * l .n = omega arith in
     c .bits32-at .ensures ∙ ap (λ p. bitsAt (a .part .now) p 32) place
 
 returns : tie.Need-returns Inv-loop μ-loop
 unfolding setAt
-returns c = sym (any-some _ _ _ (c .before .before .loop-test .taken) (rw (← (word (c .before)), ne-eqb _ _ (c .if1 .taken))))
+returns c =
+    let c1 = c .before in
+    let c2 = c1 .before in
+    sym (any-some _ _ _ (c2 .loop-test .taken) (rw (← (word (c1)), ne-eqb _ _ (c .if1 .taken))))
 
 loop-again : tie.Need-loop-again Inv-loop μ-loop
 unfolding setAt
-loop-again c = (omega arith, any-more _ _ (c .before .before .before .loop .inv .1) (rw (← (word (c .before)), eq-eqb _ _ (c .if1 .left))))
+loop-again c =
+    let c1 = c .before in
+    let c3 = c1 .before .before in
+    (omega arith, any-more _ _ (c3 .loop .inv .1) (rw (← (word (c1)), eq-eqb _ _ (c .if1 .left))))
 
 returns-2 : tie.Need-returns-2 Inv-loop μ-loop
 returns-2 c = any-done _ (c .before .loop .inv .1) (omega arith) (omega arith)

@@ -28,7 +28,9 @@ loop-again c =
     (omega arith, turn bodyFaults body 94 refl _ (l .f) (l .from) (l .left) (l .from + 94 - l .from) (b .before .before .loop-test .taken) (omega arith) (b .body-faults .ensures) (c .or .ensures) (l .inv .1))
 
 returns : tie.Need-returns Inv-loop μ-loop
-returns c = done bodyFaults body 94 refl _ _ (c .before .loop .from) (c .before .loop .left) (c .loop-test .left) (c .before .loop .inv .1)
+returns c =
+    let c1 = c .before in
+    done bodyFaults body 94 refl _ _ (c1 .loop .from) (c1 .loop .left) (c .loop-test .left) (c1 .loop .inv .1)
 
 pub bodies-faults-spec : {M : Type 1} → statement M
 bodies-faults-spec =

@@ -37,13 +37,22 @@ unfolding checkOf
 returns c = rw (lt-ltb _ _ (c .if1 .taken))
 
 returns-2 : tie.Need-returns-2
-returns-2 c = other-edition _ (le-ltb _ _ (c .before .before .if1 .left)) (λ one. c .if2 .taken (c .before .bits8-at .ensures ∙ one))
+returns-2 c =
+    let c1 = c .before in
+    let c2 = c1 .before in
+    other-edition _ (le-ltb _ _ (c2 .if1 .left)) (λ one. c .if2 .taken (c1 .bits8-at .ensures ∙ one))
 
 returns-3 : tie.Need-returns-3
-returns-3 c = past (c .before .before) (applies (told (c .before .counts-fault .ensures) (c .if3 .taken)))
+returns-3 c =
+    let c1 = c .before in
+    let c2 = c1 .before in
+    past (c2) (applies (told (c1 .counts-fault .ensures) (c .if3 .taken)))
 
 returns-4 : tie.Need-returns-4
-returns-4 c = past-3 (c .before .before) (applies (told (c .before .rate-fault .ensures) (c .if4 .taken)))
+returns-4 c =
+    let c1 = c .before in
+    let c2 = c1 .before in
+    past-3 (c2) (applies (told (c1 .rate-fault .ensures) (c .if4 .taken)))
 
 returns-5 : tie.Need-returns-5
 returns-5 c = past-4 (c .before) (applies (wrong-length _ _ _ (c .if5 .taken)))

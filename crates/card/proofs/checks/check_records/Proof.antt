@@ -43,19 +43,36 @@ returns : tie.Need-returns
 returns c = let j = c .before .before .before .before in all j (applies (told (row-6 _ _ _ (j .before .before .header-faults .ensures) (j .before .bodies-faults .ensures) (j .joints-faults .ensures)) (c .if1 .taken)))
 
 returns-2 : tie.Need-returns-2
-returns-2 c = let j = c .before .before .before .before .before .before .before .before in all j (past-6 (c .before .before .before .before) (applies (told (row-7 _ _ _ (j .before .before .header-faults .ensures) (j .before .bodies-faults .ensures) (j .joints-faults .ensures) (c .before .before .before .before .if1 .left)) (c .if2 .taken))))
+returns-2 c =
+    let c4 = c .before .before .before .before in
+    let c8 = c4 .before .before .before .before in
+    let j = c8 in all j (past-6 (c4) (applies (told (row-7 _ _ _ (j .before .before .header-faults .ensures) (j .before .bodies-faults .ensures) (j .joints-faults .ensures) (c4 .if1 .left)) (c .if2 .taken))))
 
 returns-3 : tie.Need-returns-3
-returns-3 c = let j = c .before .before .before .before .before .before .before .before .before in all j (past-7 (c .before) (applies (told (row-8 _ _ _ (j .before .before .header-faults .ensures) (j .before .bodies-faults .ensures) (j .joints-faults .ensures)) (c .if3 .taken))))
+returns-3 c =
+    let c1 = c .before in
+    let c9 = c1 .before .before .before .before .before .before .before .before in
+    let j = c9 in all j (past-7 (c1) (applies (told (row-8 _ _ _ (j .before .before .header-faults .ensures) (j .before .bodies-faults .ensures) (j .joints-faults .ensures)) (c .if3 .taken))))
 
 returns-4 : tie.Need-returns-4
-returns-4 c = let j = c .before .before .before .before .before .before .before .before .before .before .before .before in all j (past-8 (c .before .before .before) (applies (told (row-9 _ _ _ (j .before .before .header-faults .ensures) (j .before .bodies-faults .ensures) (j .joints-faults .ensures)) (c .if4 .taken))))
+returns-4 c =
+    let c3 = c .before .before .before in
+    let c12 = c3 .before .before .before .before .before .before .before .before .before in
+    let j = c12 in all j (past-8 (c3) (applies (told (row-9 _ _ _ (j .before .before .header-faults .ensures) (j .before .bodies-faults .ensures) (j .joints-faults .ensures)) (c .if4 .taken))))
 
 returns-5 : tie.Need-returns-5
-returns-5 c = all (c .before .before .before .before .before .before .before .before .before .before .before .before .before .before) (past-9 (c .before .before) (applies (told (row-10 _ _ _ (c .before .any-pair-fault .ensures)) (c .if5 .taken))))
+returns-5 c =
+    let c1 = c .before in
+    let c2 = c1 .before in
+    let c14 = c2 .before .before .before .before .before .before .before .before .before .before .before .before in
+    all (c14) (past-9 (c2) (applies (told (row-10 _ _ _ (c1 .any-pair-fault .ensures)) (c .if5 .taken))))
 
 returns-6 : tie.Need-returns-6
-returns-6 c = all (c .before .before .before .before .before .before .before .before .before .before .before .before .before .before) (past-9 (c .before .before) (passes (told (row-10 _ _ _ (c .before .any-pair-fault .ensures)) (c .if5 .left)) none))
+returns-6 c =
+    let c1 = c .before in
+    let c2 = c1 .before in
+    let c14 = c2 .before .before .before .before .before .before .before .before .before .before .before .before in
+    all (c14) (past-9 (c2) (passes (told (row-10 _ _ _ (c1 .any-pair-fault .ensures)) (c .if5 .left)) none))
 
 pub check-records-spec : {M : Type 1} → statement M
 check-records-spec =

@@ -27,7 +27,9 @@ loop-again c =
     (omega arith, turn jointFaults joint1 123 refl _ (l .f) (l .from) (l .left) (l .from + 123 - l .from) (b .before .before .loop-test .taken) (omega arith) (b .joint-faults .ensures) (c .or .ensures) (l .inv .1))
 
 returns : tie.Need-returns Inv-loop μ-loop
-returns c = done jointFaults joint1 123 refl _ _ (c .before .loop .from) (c .before .loop .left) (c .loop-test .left) (c .before .loop .inv .1)
+returns c =
+    let c1 = c .before in
+    done jointFaults joint1 123 refl _ _ (c1 .loop .from) (c1 .loop .left) (c .loop-test .left) (c1 .loop .inv .1)
 
 pub joints-faults-spec : {M : Type 1} → statement M
 joints-faults-spec =

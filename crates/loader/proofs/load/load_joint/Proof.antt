@@ -12,7 +12,11 @@ cast-words-2 : tie.Need-cast-words-2
 cast-words-2 c = omega (arith, body-numbers _ (c .before .before .joint-bits .ensures))
 
 returns : tie.Need-returns
-returns c = let start = c .before .before .before .before .before .before .before .before .before .before .before .before in (joint-words _ (start .args .words .now) (start .pre .1) (c .before .before .before .before .before .before .before .before .joint-bits .ensures), joint-floats _ (c .before .before .load-floats .ensures) (start .pre .2))
+returns c =
+    let c2 = c .before .before in
+    let c8 = c2 .before .before .before .before .before .before in
+    let c12 = c8 .before .before .before .before in
+    let start = c12 in (joint-words _ (start .args .words .now) (start .pre .1) (c8 .joint-bits .ensures), joint-floats _ (c2 .load-floats .ensures) (start .pre .2))
 
 pub load-joint-spec : {M : Type 1} → statement M
 load-joint-spec =

@@ -23,8 +23,10 @@ loop-again c =
 
 returns : tie.Need-returns Inv-loop μ-loop
 returns c =
-    let l = c .before .loop in
-    let e : c .before .before .before .args .bodies ≡ l .i = omega arith in rw e (l .inv .1)
+    let c1 = c .before in
+    let c3 = c1 .before .before in
+    let l = c1 .loop in
+    let e : c3 .args .bodies ≡ l .i = omega arith in rw e (l .inv .1)
 
 pub any-far-spec : {M : Type 1} → statement M
 any-far-spec =

@@ -6,8 +6,10 @@ use Rattle.state.proofs.start.start_accepted.Tie as tie
 
 returns : tie.Need-returns
 returns c =
-    let a = c .before .before .before .before .args in
-    length-refused (a .card .now) (a .bodies) (a .joints) _ (λ e. c .if1 .taken (e ∙ sym (c .before .state-length .ensures)))
+    let c1 = c .before in
+    let c4 = c1 .before .before .before in
+    let a = c4 .args in
+    length-refused (a .card .now) (a .bodies) (a .joints) _ (λ e. c .if1 .taken (e ∙ sym (c1 .state-length .ensures)))
 
 returns-2 : tie.Need-returns-2
 returns-2 c =

@@ -20,7 +20,10 @@ module _ (l : List ℕ) where
 
 returns : tie.Need-returns
 returns c =
-    simp (c .before .before .before .vec3-at .ensures, c .before .before .quat-at .ensures, c .before .vec3-at2 .ensures, c .vec3-at3 .ensures)
+    let c1 = c .before in
+    let c2 = c1 .before in
+    let c3 = c2 .before in
+    simp (c3 .vec3-at .ensures, c2 .quat-at .ensures, c1 .vec3-at2 .ensures, c .vec3-at3 .ensures)
     (by-numbers _)
 
 pub start-body-spec : {M : Type 1} → statement M

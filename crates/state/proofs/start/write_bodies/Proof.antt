@@ -24,8 +24,10 @@ loop-holds c = (omega arith, refl, rw none-done)
 
 start-body-requires : tie.Need-start-body-requires Inv-loop μ-loop
 start-body-requires c κs =
-    let a = c .before .before .before .before .before .args in
-    let from = a .at + 94 * c .before .before .loop .i in
+    let c2 = c .before .before in
+    let c5 = c2 .before .before .before in
+    let a = c5 .args in
+    let from = a .at + 94 * c2 .loop .i in
     omega (arith, part-length (a .card .now) from (from + 94 - from) (omega arith))
 
 loop-again : tie.Need-loop-again Inv-loop μ-loop
@@ -45,8 +47,10 @@ same-length c = c .before .loop .inv .1
 
 returns : tie.Need-returns Inv-loop μ-loop
 returns c =
-    let l = c .before .loop in
-    let e : c .before .before .before .before .args .bodies ≡ l .i = omega arith in rw e (l .inv .2)
+    let c1 = c .before in
+    let c4 = c1 .before .before .before in
+    let l = c1 .loop in
+    let e : c4 .args .bodies ≡ l .i = omega arith in rw e (l .inv .2)
 
 pub write-bodies-spec : {M : Type 1} → statement M
 write-bodies-spec =

@@ -6,8 +6,11 @@ use Rattle.tick.proofs.linked.rigid_at.Tie as tie
 
 returns : tie.Need-returns
 returns c =
-    let a = (c .before .before .before .before .before .before .before .before .args) in
-    rw (body-at (a .h) (a .words .now) (a .floats .now) (a .i) ((c .before .before .before .before .before .before .before .before .pre) .1) ((c .before .body-at2) .ensures), (c .before .before .before .before .body-at) .ensures)
+    let c1 = c .before in
+    let c4 = c1 .before .before .before in
+    let c8 = c4 .before .before .before .before in
+    let a = (c8 .args) in
+    rw (body-at (a .h) (a .words .now) (a .floats .now) (a .i) (c8 .pre .1) (c1 .body-at2 .ensures), c4 .body-at .ensures)
 
 pub rigid-at-spec : {M : Type 1} → statement M
 rigid-at-spec = tie.close (tie.spec (λ c κs. omega arith) (λ c κs. search needs) returns)

@@ -10,58 +10,82 @@ use Rattle.tick.proofs.linked.warm_at.Tie as tie
 
 solver-body-at-requires : tie.Need-solver-body-at-requires
 solver-body-at-requires c κs =
-    let a = (c .before .before .before .before .before .before .args) in
-    let p = (c .before .before .before .before .before .before .pre) in
-    omega (arith, first-below (a .h) (a .words .now) (a .floats .now) (a .j) (p .1) (p .0) ((c .before .first-body) .ensures), p .3)
+    let c1 = c .before in
+    let c6 = c1 .before .before .before .before .before in
+    let a = (c6 .args) in
+    let p = (c6 .pre) in
+    omega (arith, first-below (a .h) (a .words .now) (a .floats .now) (a .j) (p .1) (p .0) (c1 .first-body .ensures), p .3)
 
 solver-body-at-requires-2 : tie.Need-solver-body-at-requires-2
 solver-body-at-requires-2 c κs =
-    let a = (c .before .before .before .before .before .before .before .args) in
-    let p = (c .before .before .before .before .before .before .before .pre) in
-    omega (arith, second-below (a .h) (a .words .now) (a .floats .now) (a .j) (p .1) (p .0) ((c .before .second-body) .ensures), p .3)
+    let c1 = c .before in
+    let c7 = c1 .before .before .before .before .before .before in
+    let a = (c7 .args) in
+    let p = (c7 .pre) in
+    omega (arith, second-below (a .h) (a .words .now) (a .floats .now) (a .j) (p .1) (p .0) (c1 .second-body .ensures), p .3)
 
 returns : tie.Need-returns
 returns c = never-unknown ((c .before .before .joint-at) .ensures) ((c .enum-told) .given .1)
 
 rigid-at-requires : tie.Need-rigid-at-requires
 rigid-at-requires c κs =
-    let a = (c .before .before .before .before .before .before .before .before .before .before .before .before .args) in
-    let p = (c .before .before .before .before .before .before .before .before .before .before .before .before .pre) in
-    (p .0, first-below (a .h) (a .words .now) (a .floats .now) (a .j) (p .1) (p .0) ((c .before .before .before .before .before .before .before .first-body) .ensures), p .2)
+    let c7 = c .before .before .before .before .before .before .before in
+    let c12 = c7 .before .before .before .before .before in
+    let a = (c12 .args) in
+    let p = (c12 .pre) in
+    (p .0, first-below (a .h) (a .words .now) (a .floats .now) (a .j) (p .1) (p .0) (c7 .first-body .ensures), p .2)
 
 rigid-at-requires-2 : tie.Need-rigid-at-requires-2
 rigid-at-requires-2 c κs =
-    let a = (c .before .before .before .before .before .before .before .before .before .before .before .before .before .args) in
-    let p = (c .before .before .before .before .before .before .before .before .before .before .before .before .before .pre) in
-    (p .0, second-below (a .h) (a .words .now) (a .floats .now) (a .j) (p .1) (p .0) ((c .before .before .before .before .before .before .before .second-body) .ensures), p .2)
+    let c7 = c .before .before .before .before .before .before .before in
+    let c13 = c7 .before .before .before .before .before .before in
+    let a = (c13 .args) in
+    let p = (c13 .pre) in
+    (p .0, second-below (a .h) (a .words .now) (a .floats .now) (a .j) (p .1) (p .0) (c7 .second-body .ensures), p .2)
 
 totals-at-requires : tie.Need-totals-at-requires
 totals-at-requires c κs = let p = (c .before .before .before .before .before .before .before .before .before .before .before .before .before .before .pre) in omega (arith, p .1, p .2)
 
 body-at-requires : tie.Need-body-at-requires
 body-at-requires c κs =
-    let a = (c .before .before .before .before .before .before .before .before .before .before .before .before .before .before .before .args) in
-    let p = (c .before .before .before .before .before .before .before .before .before .before .before .before .before .before .before .pre) in
-    (p .0, first-below (a .h) (a .words .now) (a .floats .now) (a .j) (p .1) (p .0) ((c .before .before .before .before .before .before .before .before .before .before .first-body) .ensures))
+    let c10 = c .before .before .before .before .before .before .before .before .before .before in
+    let c15 = c10 .before .before .before .before .before in
+    let a = (c15 .args) in
+    let p = (c15 .pre) in
+    (p .0, first-below (a .h) (a .words .now) (a .floats .now) (a .j) (p .1) (p .0) (c10 .first-body .ensures))
 
 body-at-requires-2 : tie.Need-body-at-requires-2
 body-at-requires-2 c κs =
-    let a = (c .before .before .before .before .before .before .before .before .before .before .before .before .before .before .before .before .args) in
-    let p = (c .before .before .before .before .before .before .before .before .before .before .before .before .before .before .before .before .pre) in
-    (p .0, second-below (a .h) (a .words .now) (a .floats .now) (a .j) (p .1) (p .0) ((c .before .before .before .before .before .before .before .before .before .before .second-body) .ensures))
+    let c10 = c .before .before .before .before .before .before .before .before .before .before in
+    let c16 = c10 .before .before .before .before .before .before in
+    let a = (c16 .args) in
+    let p = (c16 .pre) in
+    (p .0, second-below (a .h) (a .words .now) (a .floats .now) (a .j) (p .1) (p .0) (c10 .second-body .ensures))
 
 returns-2 : tie.Need-returns-2
 returns-2 c =
-    let a = (c .before .before .before .before .before .before .before .before .before .before .before .before .before .before .before .before .before .before .args) in
-    let p = (c .before .before .before .before .before .before .before .before .before .before .before .before .before .before .before .before .before .before .pre) in
+    let c1 = c .before in
+    let c2 = c1 .before in
+    let c3 = c2 .before in
+    let c4 = c3 .before in
+    let c5 = c4 .before in
+    let c7 = c5 .before .before in
+    let c9 = c7 .before .before in
+    let c10 = c9 .before in
+    let c11 = c10 .before in
+    let c12 = c11 .before in
+    let c13 = c12 .before in
+    let c18 = c13 .before .before .before .before .before in
+    let a = (c18 .args) in
+    let p = (c18 .pre) in
     let h = a .h in
     let w = a .words .now in
     let f = a .floats .now in
-    let l₁ = first-below h w f (a .j) (p .1) (p .0) ((c .before .before .before .before .before .before .before .before .before .before .before .before .before .first-body) .ensures) in
-    let l₂ = second-below h w f (a .j) (p .1) (p .0) ((c .before .before .before .before .before .before .before .before .before .before .before .before .second-body) .ensures) in
-    warm-is (linkageIn h w f) (a .state .now) (a .j) h (a .bodies .now) (first-at h w f (a .j) (p .1) ((c .before .before .before .before .before .before .before .before .before .before .before .before .before .first-body) .ensures)) (second-at h w f (a .j) (p .1) ((c .before .before .before .before .before .before .before .before .before .before .before .before .second-body) .ensures)) l₁ l₂
-    ((c .before .before .before .before .before .before .before .before .before .before .before .solver-body-at) .ensures) ((c .before .before .before .before .before .before .before .before .before .before .solver-body-at2) .ensures) (known-is ((c .before .before .before .before .before .before .before .joint) .given .1) ((c .before .before .before .before .before .before .before .before .before .joint-at) .ensures) ∙ joint-at h w f (a .j) (p .1)) ((c .before .before .before .before .before .rigid-at) .ensures) ((c .before .before .before .before .rigid-at2) .ensures)
-    (ap (λ (b : LinkBody). b .inertia) (body-at h w f _ l₁ ((c .before .before .body-at) .ensures))) (ap (λ (b : LinkBody). b .inertia) (body-at h w f _ l₂ ((c .before .body-at2) .ensures))) (dt-is h w f) (totals-last h w f (a .state .now) (a .j) ((c .before .before .before .totals-at) .ensures))
+    let l₁ = first-below h w f (a .j) (p .1) (p .0) (c13 .first-body .ensures) in
+    let l₂ = second-below h w f (a .j) (p .1) (p .0) (c12 .second-body .ensures) in
+    warm-is (linkageIn h w f) (a .state .now) (a .j) h (a .bodies .now) (first-at h w f (a .j) (p .1) (c13 .first-body .ensures)) (second-at h w f (a .j) (p .1) (c12 .second-body .ensures)) l₁ l₂
+    (c11 .solver-body-at .ensures) (c10 .solver-body-at2 .ensures) (known-is (c7 .joint .given .1) (c9 .joint-at .ensures) ∙ joint-at h w f (a .j) (p .1)) (c5 .rigid-at .ensures) (c4 .rigid-at2 .ensures)
+    (ap (λ (b : LinkBody). b .inertia) (body-at h w f _ l₁ (c2 .body-at .ensures))) (ap (λ (b : LinkBody). b .inertia) (body-at h w f _ l₂ (c1 .body-at2 .ensures))) (dt-is h w f) (totals-last h w f (a .state .now) (a .j) (c3 .totals-at .ensures))
     (warm-coefficient-is h w f) ((c .warm-start-joint) .ensures)
 
 pub warm-at-spec : {M : Type 1} → statement M

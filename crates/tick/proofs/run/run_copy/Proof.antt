@@ -11,16 +11,36 @@ copy-requires : tie.Need-copy-requires
 copy-requires c κs = let p = (c .before .before .before .before .before .before .before .before .before .before .before .before .before .before .before .before .before .pre) in omega (arith, p .2, p .7)
 
 run-ticks-requires : tie.Need-run-ticks-requires
-run-ticks-requires c κs = let p = (c .before .before .before .before .before .before .before .before .before .before .before .before .before .before .before .before .before .before .before .before .before .before .before .before .before .before .pre) in ((c .before .before .before .before .before .before .before .before .before .before .before .before .before .before .before .load) .ensures .1, omega (arith, p .7, (c .before .before .before .before .before .before .before .before .copy) .kept), p .5, p .6, p .8)
+run-ticks-requires c κs =
+    let c8 = c .before .before .before .before .before .before .before .before in
+    let c15 = c8 .before .before .before .before .before .before .before in
+    let c26 = c15 .before .before .before .before .before .before .before .before .before .before .before in
+    let p = (c26 .pre) in (c15 .load .ensures .1, omega (arith, p .7, c8 .copy .kept), p .5, p .6, p .8)
 
 returns : tie.Need-returns
-returns c = copy-stops ((c .before .before .before .before .before .before .before .before .before .before .before .before .before .before .before .before .before .before .before .before .before .before .before .before .before .load) .ensures .0) ((c .before .before .before .before .before .before .before .before .before .before .before .before .before .before .before .before .before .before .copy) .ensures) ((c .before .before .before .before .before .before .before .before .before .before .before .before .before .before .before .before .before .before .before .before .before .before .before .before .before .before .before .before .before .before .before .before .before .before .before .before .args) .ticks) _ _ ((c .before .before .before .before .before .before .before .before .before .run-ticks) .ensures) ((c .if1) .taken)
+returns c =
+    let c9 = c .before .before .before .before .before .before .before .before .before in
+    let c18 = c9 .before .before .before .before .before .before .before .before .before in
+    let c25 = c18 .before .before .before .before .before .before .before in
+    let c36 = c25 .before .before .before .before .before .before .before .before .before .before .before in
+    copy-stops (c25 .load .ensures .0) (c18 .copy .ensures) (c36 .args .ticks) _ _ (c9 .run-ticks .ensures) ((c .if1) .taken)
 
 copy-requires-2 : tie.Need-copy-requires-2
-copy-requires-2 c κs = let p = (c .before .before .before .before .before .before .before .before .before .before .before .before .before .before .before .before .before .before .before .before .before .before .before .before .before .before .before .before .before .before .before .before .before .before .before .before .before .before .pre) in omega (arith, p .2, p .7, (c .before .before .before .before .before .before .before .before .before .before .before .before .before .before .before .before .before .before .before .before .copy) .kept, (c .before .before .before .before .before .before .before .before .before .before .before .run-ticks) .kept)
+copy-requires-2 c κs =
+    let c11 = c .before .before .before .before .before .before .before .before .before .before .before in
+    let c20 = c11 .before .before .before .before .before .before .before .before .before in
+    let c38 = c20 .before .before .before .before .before .before .before .before .before .before .before .before .before .before .before .before .before .before in
+    let p = (c38 .pre) in omega (arith, p .2, p .7, c20 .copy .kept, c11 .run-ticks .kept)
 
 returns-2 : tie.Need-returns-2
-returns-2 c = copy-done ((c .before .before .before .before .before .before .before .before .before .before .before .before .before .before .before .before .before .before .before .before .before .before .before .before .before .before .before .before .before .before .load) .ensures .0) ((c .before .before .before .before .before .before .before .before .before .before .before .before .before .before .before .before .before .before .before .before .before .before .before .copy) .ensures) ((c .before .before .before .before .before .before .before .before .before .before .before .before .before .before .before .before .before .before .before .before .before .before .before .before .before .before .before .before .before .before .before .before .before .before .before .before .before .before .before .before .before .args) .ticks) _ _ ((c .before .before .before .before .before .before .before .before .before .before .before .before .before .before .run-ticks) .ensures) ((c .before .before .before .before .before .if1) .left) ((c .before .before .copy2) .ensures)
+returns-2 c =
+    let c2 = c .before .before in
+    let c5 = c2 .before .before .before in
+    let c14 = c5 .before .before .before .before .before .before .before .before .before in
+    let c23 = c14 .before .before .before .before .before .before .before .before .before in
+    let c30 = c23 .before .before .before .before .before .before .before in
+    let c41 = c30 .before .before .before .before .before .before .before .before .before .before .before in
+    copy-done (c30 .load .ensures .0) (c23 .copy .ensures) (c41 .args .ticks) _ _ (c14 .run-ticks .ensures) (c5 .if1 .left) (c2 .copy2 .ensures)
 
 pub run-copy-spec : {M : Type 1} → statement M
 run-copy-spec =

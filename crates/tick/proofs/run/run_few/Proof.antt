@@ -6,69 +6,115 @@ use Rattle.tick.proofs.run.run_few.Statement.{statement}
 use Rattle.tick.proofs.run.run_few.Tie as tie
 
 mul-w : tie.Need-mul-w
-mul-w c = omega (arith, (c .before .before .before .pre) .3, (c .before .before .before .pre) .4)
+mul-w c =
+    let c3 = c .before .before .before in
+    omega (arith, c3 .pre .3, c3 .pre .4)
 
 mul-w-2 : tie.Need-mul-w-2
-mul-w-2 c = omega (arith, (c .before .before .before .before .pre) .3, (c .before .before .before .before .pre) .4)
+mul-w-2 c =
+    let c4 = c .before .before .before .before in
+    omega (arith, c4 .pre .3, c4 .pre .4)
 
 add-w : tie.Need-add-w
-add-w c = omega (arith, (c .before .before .before .before .pre) .3, (c .before .before .before .before .pre) .4)
+add-w c =
+    let c4 = c .before .before .before .before in
+    omega (arith, c4 .pre .3, c4 .pre .4)
 
 mul-f : tie.Need-mul-f
-mul-f c = omega (arith, (c .before .before .before .before .before .pre) .3, (c .before .before .before .before .before .pre) .4)
+mul-f c =
+    let c5 = c .before .before .before .before .before in
+    omega (arith, c5 .pre .3, c5 .pre .4)
 
 mul-f-2 : tie.Need-mul-f-2
-mul-f-2 c = omega (arith, (c .before .before .before .before .before .before .pre) .3, (c .before .before .before .before .before .before .pre) .4)
+mul-f-2 c =
+    let c6 = c .before .before .before .before .before .before in
+    omega (arith, c6 .pre .3, c6 .pre .4)
 
 add-f : tie.Need-add-f
-add-f c = omega (arith, (c .before .before .before .before .before .before .pre) .3, (c .before .before .before .before .before .before .pre) .4)
+add-f c =
+    let c6 = c .before .before .before .before .before .before in
+    omega (arith, c6 .pre .3, c6 .pre .4)
 
 mul-b : tie.Need-mul-b
-mul-b c = omega (arith, (c .before .before .before .before .before .before .before .pre) .3, (c .before .before .before .before .before .before .before .pre) .4)
+mul-b c =
+    let c7 = c .before .before .before .before .before .before .before in
+    omega (arith, c7 .pre .3, c7 .pre .4)
 
 state-length-requires : tie.Need-state-length-requires
-state-length-requires c κs = omega (arith, (c .before .before .before .before .before .before .before .pre) .3, (c .before .before .before .before .before .before .before .pre) .4)
+state-length-requires c κs =
+    let c7 = c .before .before .before .before .before .before .before in
+    omega (arith, c7 .pre .3, c7 .pre .4)
 
 array-borrow-prefix-words : tie.Need-array-borrow-prefix-words
-array-borrow-prefix-words c = omega (arith, (c .before .before .before .before .before .before .before .before .before .pre) .3, (c .before .before .before .before .before .before .before .before .before .pre) .4)
+array-borrow-prefix-words c =
+    let c9 = c .before .before .before .before .before .before .before .before .before in
+    omega (arith, c9 .pre .3, c9 .pre .4)
 
 slice-aggregate-run-copy : tie.Need-slice-aggregate-run-copy
-slice-aggregate-run-copy c = sym (length-take-le _ _ (omega (arith, (c .before .before .before .before .before .before .before .before .before .before .pre) .3, (c .before .before .before .before .before .before .before .before .before .before .pre) .4)))
+slice-aggregate-run-copy c =
+    let c10 = c .before .before .before .before .before .before .before .before .before .before in
+    sym (length-take-le _ _ (omega (arith, c10 .pre .3, c10 .pre .4)))
 
 array-borrow-prefix-floats : tie.Need-array-borrow-prefix-floats
-array-borrow-prefix-floats c = omega (arith, (c .before .before .before .before .before .before .before .before .before .before .pre) .3, (c .before .before .before .before .before .before .before .before .before .before .pre) .4)
+array-borrow-prefix-floats c =
+    let c10 = c .before .before .before .before .before .before .before .before .before .before in
+    omega (arith, c10 .pre .3, c10 .pre .4)
 
 slice-aggregate-run-copy-2 : tie.Need-slice-aggregate-run-copy-2
-slice-aggregate-run-copy-2 c = sym (length-take-le _ _ (omega (arith, (c .before .before .before .before .before .before .before .before .before .before .before .pre) .3, (c .before .before .before .before .before .before .before .before .before .before .before .pre) .4)))
+slice-aggregate-run-copy-2 c =
+    let c11 = c .before .before .before .before .before .before .before .before .before .before .before in
+    sym (length-take-le _ _ (omega (arith, c11 .pre .3, c11 .pre .4)))
 
 array-borrow-prefix-bodies : tie.Need-array-borrow-prefix-bodies
-array-borrow-prefix-bodies c = omega (arith, (c .before .before .before .before .before .before .before .before .before .before .before .pre) .3, (c .before .before .before .before .before .before .before .before .before .before .before .pre) .4)
+array-borrow-prefix-bodies c =
+    let c11 = c .before .before .before .before .before .before .before .before .before .before .before in
+    omega (arith, c11 .pre .3, c11 .pre .4)
 
 slice-aggregate-run-copy-3 : tie.Need-slice-aggregate-run-copy-3
-slice-aggregate-run-copy-3 c = sym (length-take-le _ _ (omega (arith, (c .before .before .before .before .before .before .before .before .before .before .before .before .pre) .3, (c .before .before .before .before .before .before .before .before .before .before .before .before .pre) .4)))
+slice-aggregate-run-copy-3 c =
+    let c12 = c .before .before .before .before .before .before .before .before .before .before .before .before in
+    sym (length-take-le _ _ (omega (arith, c12 .pre .3, c12 .pre .4)))
 
 array-borrow-prefix-pre-solve : tie.Need-array-borrow-prefix-pre-solve
-array-borrow-prefix-pre-solve c = omega (arith, (c .before .before .before .before .before .before .before .before .before .before .before .before .pre) .3, (c .before .before .before .before .before .before .before .before .before .before .before .before .pre) .4)
+array-borrow-prefix-pre-solve c =
+    let c12 = c .before .before .before .before .before .before .before .before .before .before .before .before in
+    omega (arith, c12 .pre .3, c12 .pre .4)
 
 slice-aggregate-run-copy-4 : tie.Need-slice-aggregate-run-copy-4
-slice-aggregate-run-copy-4 c = sym (length-take-le _ _ (omega (arith, (c .before .before .before .before .before .before .before .before .before .before .before .before .before .pre) .3, (c .before .before .before .before .before .before .before .before .before .before .before .before .before .pre) .4)))
+slice-aggregate-run-copy-4 c =
+    let c13 = c .before .before .before .before .before .before .before .before .before .before .before .before .before in
+    sym (length-take-le _ _ (omega (arith, c13 .pre .3, c13 .pre .4)))
 
 array-borrow-prefix-copied : tie.Need-array-borrow-prefix-copied
-array-borrow-prefix-copied c = omega (arith, (c .before .before .before .before .before .before .before .before .before .before .before .before .before .pre) .3, (c .before .before .before .before .before .before .before .before .before .before .before .before .before .pre) .4, (c .before .before .before .before .before .state-length) .ensures)
+array-borrow-prefix-copied c =
+    let c5 = c .before .before .before .before .before in
+    let c13 = c5 .before .before .before .before .before .before .before .before in
+    omega (arith, c13 .pre .3, c13 .pre .4, c5 .state-length .ensures)
 
 slice-aggregate-run-copy-5 : tie.Need-slice-aggregate-run-copy-5
-slice-aggregate-run-copy-5 c = sym (length-take-le _ _ (omega (arith, (c .before .before .before .before .before .before .before .before .before .before .before .before .before .before .pre) .3, (c .before .before .before .before .before .before .before .before .before .before .before .before .before .before .pre) .4, (c .before .before .before .before .before .before .state-length) .ensures)))
+slice-aggregate-run-copy-5 c =
+    let c6 = c .before .before .before .before .before .before in
+    let c14 = c6 .before .before .before .before .before .before .before .before in
+    sym (length-take-le _ _ (omega (arith, c14 .pre .3, c14 .pre .4, c6 .state-length .ensures)))
 
 array-borrow-prefix-new : tie.Need-array-borrow-prefix-new
-array-borrow-prefix-new c = omega (arith, (c .before .before .before .before .before .before .before .before .before .before .before .before .before .before .pre) .3, (c .before .before .before .before .before .before .before .before .before .before .before .before .before .before .pre) .4, (c .before .before .before .before .before .before .state-length) .ensures)
+array-borrow-prefix-new c =
+    let c6 = c .before .before .before .before .before .before in
+    let c14 = c6 .before .before .before .before .before .before .before .before in
+    omega (arith, c14 .pre .3, c14 .pre .4, c6 .state-length .ensures)
 
 slice-aggregate-run-copy-6 : tie.Need-slice-aggregate-run-copy-6
-slice-aggregate-run-copy-6 c = sym (length-take-le _ _ (omega (arith, (c .before .before .before .before .before .before .before .before .before .before .before .before .before .before .before .pre) .3, (c .before .before .before .before .before .before .before .before .before .before .before .before .before .before .before .pre) .4, (c .before .before .before .before .before .before .before .state-length) .ensures)))
+slice-aggregate-run-copy-6 c =
+    let c7 = c .before .before .before .before .before .before .before in
+    let c15 = c7 .before .before .before .before .before .before .before .before in
+    sym (length-take-le _ _ (omega (arith, c15 .pre .3, c15 .pre .4, c7 .state-length .ensures)))
 
 run-copy-requires : tie.Need-run-copy-requires
 run-copy-requires c κs =
-    let p = (c .before .before .before .before .before .before .before .before .before .before .before .before .before .before .before .pre) in
-    let n = (c .before .before .before .before .before .before .before .state-length) .ensures in (
+    let c7 = c .before .before .before .before .before .before .before in
+    let c15 = c7 .before .before .before .before .before .before .before .before in
+    let p = (c15 .pre) in
+    let n = c7 .state-length .ensures in (
       p .0,
       p .1,
       p .2,

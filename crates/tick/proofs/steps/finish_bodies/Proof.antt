@@ -28,24 +28,39 @@ finish-next-requires : tie.Need-finish-next-requires Inv-loop μ-loop
 finish-next-requires c κs = let p = (c .before .before .before .before .before .before .before .before .pre) in (p .0, (c .loop-test) .taken, p .1, p .2, p .3, p .4, p .5)
 
 write-body-requires : tie.Need-write-body-requires Inv-loop μ-loop
-write-body-requires c κs = omega (arith, (c .before .before .loop-test) .taken, (c .before .before .before .loop) .inv .1, (c .before .before .before .before .before .before .before .before .before .before .pre) .6)
+write-body-requires c κs =
+    let c2 = c .before .before in
+    let c3 = c2 .before in
+    let c10 = c3 .before .before .before .before .before .before .before in
+    omega (arith, c2 .loop-test .taken, c3 .loop .inv .1, c10 .pre .6)
 
 add-i : tie.Need-add-i Inv-loop μ-loop
-add-i c = omega (arith, (c .before .before .before .before .before .loop-test) .taken, (c .before .before .before .before .before .before .before .before .before .before .before .before .before .good) .0)
+add-i c =
+    let c5 = c .before .before .before .before .before in
+    let c13 = c5 .before .before .before .before .before .before .before .before in
+    omega (arith, c5 .loop-test .taken, c13 .good .0)
 
 loop-less : tie.Need-loop-less Inv-loop μ-loop
-loop-less c = omega (arith, (c .before .before .before .before .before .loop-test) .taken, (c .before .before .before .before .before .before .loop) .inv .0)
+loop-less c =
+    let c5 = c .before .before .before .before .before in
+    let c6 = c5 .before in
+    omega (arith, c5 .loop-test .taken, c6 .loop .inv .0)
 
 loop-again : tie.Need-loop-again Inv-loop μ-loop
 loop-again c =
-    let h = (c .before .before .before .before .before .before .before .before .before .before .before .before .before .args) .h in
-    let l = (c .before .before .before .before .before .before .loop) in
-    let b = (c .before .before .before .before .finish-next) in
-    let w = (c .before .before .write-body) in
-    let k = (c .before .before .before .before .before .loop-test) .taken in (
+    let c2 = c .before .before in
+    let c4 = c2 .before .before in
+    let c5 = c4 .before in
+    let c6 = c5 .before in
+    let c13 = c6 .before .before .before .before .before .before .before in
+    let h = c13 .args .h in
+    let l = (c6 .loop) in
+    let b = (c4 .finish-next) in
+    let w = (c2 .write-body) in
+    let k = c5 .loop-test .taken in (
       omega (arith, k, l .inv .0),
       w .kept .0 ∙ l .inv .1,
-      after-turn _ _ (l .inv .2) (rw (w .ensures, body-put (l .new) (l .i) (b .result) (h .bodies) k (omega (arith, l .inv .1, (c .before .before .before .before .before .before .before .before .before .before .before .before .before .pre) .6)), b .ensures)),
+      after-turn _ _ (l .inv .2) (rw (w .ensures, body-put (l .new) (l .i) (b .result) (h .bodies) k (omega (arith, l .inv .1, c13 .pre .6)), b .ensures)),
       ap (λ t. each (totalsAt (h .bodies) t) (h .joints)) (w .ensures) ∙ all-totals-kept (l .new) (l .i) (b .result) (h .bodies) k (h .joints) ∙ l .inv .3,
     )
 
@@ -54,8 +69,10 @@ same-length c = (c .before .loop) .inv .1
 
 returns : tie.Need-returns Inv-loop μ-loop
 returns c =
-    let a = (c .before .before .before .before .before .before .before .before .args) in
-    let l = (c .before .loop) .inv in
+    let c1 = c .before in
+    let c8 = c1 .before .before .before .before .before .before .before in
+    let a = (c8 .args) in
+    let l = c1 .loop .inv in
     let n = a .h .bodies in
     let v = newBody (linkageIn (a .h) (a .words .now) (a .floats .now)) (a .state .now) in
     (after-done _ _ (l .2) (l .0) ((c .loop-test) .left) ∙ fill-each v (each (bodyAt (a .new .now)) n) (v 0) n (each-length _ _), l .3)

@@ -28,22 +28,39 @@ body-at-requires : tie.Need-body-at-requires Inv-loop μ-loop
 body-at-requires c κs = ((c .before .before .before .before .before .pre) .0, (c .loop-test) .taken)
 
 put-moving-requires : tie.Need-put-moving-requires Inv-loop μ-loop
-put-moving-requires c κs = ((c .before .before .before .before .before .before .before .before .before .before .before .pre) .0, (c .before .before .before .before .before .before .loop-test) .taken, (c .before .before .before .before .before .before .before .loop) .inv .1 ∙ (c .before .before .before .before .before .before .before .before .before .before .before .pre) .1)
+put-moving-requires c κs =
+    let c6 = c .before .before .before .before .before .before in
+    let c7 = c6 .before in
+    let c11 = c7 .before .before .before .before in
+    (c11 .pre .0, c6 .loop-test .taken, c7 .loop .inv .1 ∙ c11 .pre .1)
 
 add-i : tie.Need-add-i Inv-loop μ-loop
-add-i c = omega (arith, (c .before .before .before .before .before .before .before .before .before .loop-test) .taken, (c .before .before .before .before .before .before .before .before .before .before .before .before .before .before .good) .0)
+add-i c =
+    let c9 = c .before .before .before .before .before .before .before .before .before in
+    let c14 = c9 .before .before .before .before .before in
+    omega (arith, c9 .loop-test .taken, c14 .good .0)
 
 loop-less : tie.Need-loop-less Inv-loop μ-loop
-loop-less c = omega (arith, (c .before .before .before .before .before .before .before .before .before .loop-test) .taken, (c .before .before .before .before .before .before .before .before .before .before .loop) .inv .0)
+loop-less c =
+    let c9 = c .before .before .before .before .before .before .before .before .before in
+    let c10 = c9 .before in
+    omega (arith, c9 .loop-test .taken, c10 .loop .inv .0)
 
 loop-again : tie.Need-loop-again Inv-loop μ-loop
 loop-again c =
-    let a = (c .before .before .before .before .before .before .before .before .before .before .before .before .before .before .args) in
-    let l = (c .before .before .before .before .before .before .before .before .before .before .loop) in
-    let m = (c .before .before .put-moving) in
+    let c2 = c .before .before in
+    let c4 = c2 .before .before in
+    let c5 = c4 .before in
+    let c8 = c5 .before .before .before in
+    let c9 = c8 .before in
+    let c10 = c9 .before in
+    let c14 = c10 .before .before .before .before in
+    let a = (c14 .args) in
+    let l = (c10 .loop) in
+    let m = (c2 .put-moving) in
     let K = linkageIn (a .h) (a .words .now) (a .floats .now) in
-    let q = integrate-is (a .h) (a .words .now) (a .floats .now) (l .i) ((c .before .before .before .before .before .before .before .before .before .loop-test) .taken) (l .bodies) ((c .before .before .before .before .before .before .before .before .body-at) .ensures) ((c .before .before .before .before .before .solver-body-at) .ensures) ((c .before .before .before .before .integrate) .ensures) in (
-      omega (arith, (c .before .before .before .before .before .before .before .before .before .loop-test) .taken, l .inv .0),
+    let q = integrate-is (a .h) (a .words .now) (a .floats .now) (l .i) (c9 .loop-test .taken) (l .bodies) (c8 .body-at .ensures) (c5 .solver-body-at .ensures) (c4 .integrate .ensures) in (
+      omega (arith, c9 .loop-test .taken, l .inv .0),
       omega (arith, m .kept, l .inv .1),
       after-turn _ _ (l .inv .2) (m .ensures ∙ ap (λ b. put K (l .i) b (bodiesIn (a .h) (l .bodies))) q),
     )

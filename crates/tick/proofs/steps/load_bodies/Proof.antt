@@ -28,12 +28,17 @@ loaded-body-requires c κs = let p = (c .before .before .before .before .before 
 
 loop-again : tie.Need-loop-again Inv-loop μ-loop
 loop-again c =
-    let l = (c .before .before .before .before .before .before .loop) in
-    let b = (c .before .before .before .before .loaded-body) in
-    let w = (c .before .before .write-solver-body) in (
+    let c2 = c .before .before in
+    let c4 = c2 .before .before in
+    let c5 = c4 .before in
+    let c6 = c5 .before in
+    let c11 = c6 .before .before .before .before .before in
+    let l = (c6 .loop) in
+    let b = (c4 .loaded-body) in
+    let w = (c2 .write-solver-body) in (
       omega arith,
       w .kept .0 ∙ l .inv .1,
-      after-turn _ _ (l .inv .2) (rw (w .ensures, body-put ((c .before .before .before .before .before .before .before .before .before .before .before .args) .h) (l .bodies) (l .i) ((c .before .before .before .before .before .loop-test) .taken) (l .inv .1 ∙ (c .before .before .before .before .before .before .before .before .before .before .before .pre) .2) (b .result), b .ensures)),
+      after-turn _ _ (l .inv .2) (rw (w .ensures, body-put (c11 .args .h) (l .bodies) (l .i) (c5 .loop-test .taken) (l .inv .1 ∙ c11 .pre .2) (b .result), b .ensures)),
     )
 
 same-length : tie.Need-same-length Inv-loop μ-loop
@@ -41,8 +46,10 @@ same-length c = (c .before .loop) .inv .1
 
 returns : tie.Need-returns Inv-loop μ-loop
 returns c =
-    let a = (c .before .before .before .before .before .before .args) in
-    let l = (c .before .loop) in
+    let c1 = c .before in
+    let c6 = c1 .before .before .before .before .before in
+    let a = (c6 .args) in
+    let l = (c1 .loop) in
     loaded-done (linkageIn (a .h) (a .words .now) (a .floats .now)) (a .state .now) (bodiesIn (a .h) (a .bodies .now)) (bodies-length (a .h) (a .words .now) (a .floats .now)) (each-length _ _) (l .inv .2)
     (l .inv .0) ((c .loop-test) .left)
 

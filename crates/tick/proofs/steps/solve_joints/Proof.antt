@@ -26,37 +26,60 @@ loop-holds c = (omega arith, refl, refl, sym (after-none _ _))
 
 solve-next-requires : tie.Need-solve-next-requires Inv-loop μ-loop
 solve-next-requires c κs =
-    let p = (c .before .before .before .before .before .before .before .before .before .pre) in
-    let l = (c .before .before .before .loop) .inv in
-    (p .0, (c .before .before .loop-test) .taken, p .1, l .1 ∙ p .2, l .2 ∙ p .3)
+    let c2 = c .before .before in
+    let c3 = c2 .before in
+    let c9 = c3 .before .before .before .before .before .before in
+    let p = (c9 .pre) in
+    let l = c3 .loop .inv in
+    (p .0, c2 .loop-test .taken, p .1, l .1 ∙ p .2, l .2 ∙ p .3)
 
 add-j : tie.Need-add-j Inv-loop μ-loop
-add-j c = omega (arith, (c .before .before .before .before .before .before .before .before .loop-test) .taken, (c .before .before .before .before .before .before .before .before .before .loop) .inv .0)
+add-j c =
+    let c8 = c .before .before .before .before .before .before .before .before in
+    let c9 = c8 .before in
+    omega (arith, c8 .loop-test .taken, c9 .loop .inv .0)
 
 loop-less : tie.Need-loop-less Inv-loop μ-loop
-loop-less c = omega (arith, (c .before .before .before .before .before .before .before .before .loop-test) .taken, (c .before .before .before .before .before .before .before .before .before .loop) .inv .0)
+loop-less c =
+    let c8 = c .before .before .before .before .before .before .before .before in
+    let c9 = c8 .before in
+    omega (arith, c8 .loop-test .taken, c9 .loop .inv .0)
 
 loop-again : tie.Need-loop-again Inv-loop μ-loop
 loop-again c =
-    let l = (c .before .before .before .before .before .before .before .before .before .loop) in
-    let t = (c .before .before .before .before .before .solve-next) in (
-      omega (arith, (c .before .before .before .before .before .before .before .before .loop-test) .taken, l .inv .0),
+    let c5 = c .before .before .before .before .before in
+    let c8 = c5 .before .before .before in
+    let c9 = c8 .before in
+    let c15 = c9 .before .before .before .before .before .before in
+    let l = (c9 .loop) in
+    let t = (c5 .solve-next) in (
+      omega (arith, c8 .loop-test .taken, l .inv .0),
       omega (arith, t .kept, l .inv .1),
       omega (arith, t .kept, l .inv .2),
-      after-turn _ _ (l .inv .3) (solve-turn ((c .before .before .before .before .before .before .before .before .before .before .before .before .before .before .before .args) .h) _ _ _ (t .ensures) ((c .if1) .taken)),
+      after-turn _ _ (l .inv .3) (solve-turn (c15 .args .h) _ _ _ (t .ensures) ((c .if1) .taken)),
     )
 
 same-length : tie.Need-same-length Inv-loop μ-loop
-same-length c = omega (arith, (c .before .before .before .before .before .solve-next) .kept, (c .before .before .before .before .before .before .before .before .before .loop) .inv .1)
+same-length c =
+    let c5 = c .before .before .before .before .before in
+    let c9 = c5 .before .before .before .before in
+    omega (arith, c5 .solve-next .kept, c9 .loop .inv .1)
 
 same-length-2 : tie.Need-same-length-2 Inv-loop μ-loop
-same-length-2 c = omega (arith, (c .before .before .before .before .before .solve-next) .kept, (c .before .before .before .before .before .before .before .before .before .loop) .inv .2)
+same-length-2 c =
+    let c5 = c .before .before .before .before .before in
+    let c9 = c5 .before .before .before .before in
+    omega (arith, c5 .solve-next .kept, c9 .loop .inv .2)
 
 returns : tie.Need-returns Inv-loop μ-loop
 returns c =
-    let a = (c .before .before .before .before .before .before .before .before .before .before .before .before .before .before .before .args) in
-    let l = (c .before .before .before .before .before .before .before .before .before .loop) in
-    stop-is _ _ ∙ solve-last (linkageIn (a .h) (a .words .now) (a .floats .now)) (a .state .now) (solvedIn (a .h) true (a .bodies .now) (a .new .now)) (l .inv .3) (solve-ends (a .h) _ _ _ ((c .before .before .before .before .before .solve-next) .ensures) ((c .if1) .left)) ((c .before .before .before .before .before .before .before .before .loop-test) .taken)
+    let c5 = c .before .before .before .before .before in
+    let c8 = c5 .before .before .before in
+    let c9 = c8 .before in
+    let c15 = c9 .before .before .before .before .before .before in
+    let a = (c15 .args) in
+    let l = (c9 .loop) in
+    stop-is _ _ ∙ solve-last (linkageIn (a .h) (a .words .now) (a .floats .now)) (a .state .now) (solvedIn (a .h) true (a .bodies .now) (a .new .now)) (l .inv .3) (solve-ends (a .h) _ _ _ (c5 .solve-next .ensures) ((c .if1) .left)) (c8 .loop-test .taken)
 
 same-length-3 : tie.Need-same-length-3 Inv-loop μ-loop
 same-length-3 c = (c .before .loop) .inv .1

@@ -19,18 +19,25 @@ write-totals-requires c κs = let p = (c .before .before .before .before .before
 
 returns : tie.Need-returns
 returns c =
-    let a = (c .before .before .before .before .before .before .before .before .before .before .before .before .before .before .before .before .before .before .args) in
-    let p = (c .before .before .before .before .before .before .before .before .before .before .before .before .before .before .before .before .before .before .pre) in
+    let c2 = c .before .before in
+    let c6 = c2 .before .before .before .before in
+    let c10 = c6 .before .before .before .before in
+    let c11 = c10 .before in
+    let c18 = c11 .before .before .before .before .before .before .before in
+    let a = (c18 .args) in
+    let p = (c18 .pre) in
     let K = linkageIn (a .h) (a .words .now) (a .floats .now) in
     let σ = solvedIn (a .h) true (a .bodies .now) (a .new .now) in
-    solve-more K (a .state .now) (a .h) (a .j) (a .bodies .now) (a .new .now) ((c .before .before .before .before .before .before .before .before .before .before .before .solve-at) .ensures σ refl) ((c .before .before .before .before .before .before .before .before .before .before .if1) .taken) _ ((c .before .before .before .before .before .before .put-pair) .ensures) ((c .before .before .write-totals) .ensures) (p .1) (p .4)
+    solve-more K (a .state .now) (a .h) (a .j) (a .bodies .now) (a .new .now) (c11 .solve-at .ensures σ refl) (c10 .if1 .taken) _ (c6 .put-pair .ensures) (c2 .write-totals .ensures) (p .1) (p .4)
 
 returns-2 : tie.Need-returns-2
 returns-2 c =
-    let a = (c .before .before .before .before .before .before .before .before .args) in
+    let c1 = c .before in
+    let c8 = c1 .before .before .before .before .before .before .before in
+    let a = (c8 .args) in
     let K = linkageIn (a .h) (a .words .now) (a .floats .now) in
     let σ = solvedIn (a .h) true (a .bodies .now) (a .new .now) in
-    solve-stop K (a .state .now) (a .h) (a .j) (a .bodies .now) (a .new .now) ((c .before .solve-at) .ensures σ refl) ((c .if1) .left)
+    solve-stop K (a .state .now) (a .h) (a .j) (a .bodies .now) (a .new .now) (c1 .solve-at .ensures σ refl) ((c .if1) .left)
 
 pub solve-next-spec : {M : Type 1} → statement M
 solve-next-spec =

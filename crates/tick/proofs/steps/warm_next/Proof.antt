@@ -16,15 +16,20 @@ put-pair-requires c κs = let p = (c .before .before .before .before .before .be
 
 returns : tie.Need-returns
 returns c =
-    let a = (c .before .before .before .before .before .before .before .before .before .before .before .before .args) in
+    let c2 = c .before .before in
+    let c4 = c2 .before .before in
+    let c12 = c4 .before .before .before .before .before .before .before .before in
+    let a = (c12 .args) in
     let K = linkageIn (a .h) (a .words .now) (a .floats .now) in
-    (c .before .before .put-pair) .ensures ∙ ap (λ p. putPair K (a .j) p (bodiesIn (a .h) (a .bodies .now))) ((c .before .before .before .before .warm-at) .ensures)
+    c2 .put-pair .ensures ∙ ap (λ p. putPair K (a .j) p (bodiesIn (a .h) (a .bodies .now))) (c4 .warm-at .ensures)
 
 returns-2 : tie.Need-returns-2
 returns-2 c =
-    let a = (c .before .before .before .before .before .before .args) in
+    let c1 = c .before in
+    let c6 = c1 .before .before .before .before .before in
+    let a = (c6 .args) in
     warm-skip (linkageIn (a .h) (a .words .now) (a .floats .now)) (a .state .now) (a .j)
-    (undriven (a .h) (a .words .now) (a .floats .now) (a .j) ((c .before .before .before .before .before .before .pre) .1) (sym ((c .before .has-motor) .ensures) ∙ (c .if1) .left)) _
+    (undriven (a .h) (a .words .now) (a .floats .now) (a .j) (c6 .pre .1) (sym (c1 .has-motor .ensures) ∙ (c .if1) .left)) _
 
 pub warm-next-spec : {M : Type 1} → statement M
 warm-next-spec =

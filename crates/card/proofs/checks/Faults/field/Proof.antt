@@ -27,10 +27,16 @@ module _ (f : Faults) (l : List ℕ) (low high : Float) (at count : ℕ) {used r
   without-use u e = rw (u, e, any-never (λ n. outsideAt l low high at n && false) (λ n. and-false (outsideAt l low high at n)) count, or-false (f .floats))
 
 returns : tie.Need-returns
-returns c = with-use _ _ _ _ _ _ (c .before .before .if1 .taken) (c .before .any-outside .ensures)
+returns c =
+    let c1 = c .before in
+    let c2 = c1 .before in
+    with-use _ _ _ _ _ _ (c2 .if1 .taken) (c1 .any-outside .ensures)
 
 returns-2 : tie.Need-returns-2
-returns-2 c = without-use _ _ _ _ _ _ (c .before .before .if1 .left) (c .before .any-set .ensures)
+returns-2 c =
+    let c1 = c .before in
+    let c2 = c1 .before in
+    without-use _ _ _ _ _ _ (c2 .if1 .left) (c1 .any-set .ensures)
 
 pub field-spec : {M : Type 1} → statement M
 field-spec = tie.close (tie.spec (λ c κs. search needs) returns (λ c κs. search needs) returns-2)
