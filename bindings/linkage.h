@@ -78,8 +78,9 @@ enum linkage_answer {
     LINKAGE_WRONG_BODIES = 10,      /* A joint names a missing body, one body twice, or two anchored ones. */
     LINKAGE_STATE_LENGTH = 11,      /* The state has a wrong length. */
     LINKAGE_STATE_NUMBER = 12,      /* On a tick, a number of the state is not finite, or a position coordinate is over 4,096 in size. */
-    LINKAGE_STOPPED = 13            /* The tick is stopped: after a joint's solve one of its numbers or of its two bodies', or at the end a new number of the
+    LINKAGE_STOPPED = 13,           /* The tick is stopped: after a joint's solve one of its numbers or of its two bodies', or at the end a new number of the
                                        state, is not finite, or a new position coordinate is over 4,096 in size. */
+    LINKAGE_DOMINANCE = 17          /* Asked directly after 6. A moving body's dominance is not zero: the card is to be redrawn with an anchored body. */
 };
 
 /* An answer in words. */
@@ -99,6 +100,7 @@ static inline const char *linkage_text(uint32_t answer) {
     case LINKAGE_STATE_LENGTH: return "the state is not as long as the card's bodies and joints ask for";
     case LINKAGE_STATE_NUMBER: return "a number of the state is not finite, or a body is too far out";
     case LINKAGE_STOPPED: return "the tick would leave a number that is not finite, or a body too far out";
+    case LINKAGE_DOMINANCE: return "a body of the card has a dominance, which is no longer known: an anchored body is to take its place";
     default: return "an answer that this version does not know";
     }
 }
@@ -107,7 +109,7 @@ static inline const char *linkage_text(uint32_t answer) {
 extern "C" {
 #endif
 
-/* Refusals 1 to 10 of a card. */
+/* A card's refusals: those up to 10, and 17. */
 uint32_t linkage_check(const uint8_t *card, size_t card_bytes);
 
 /* A card's bodies and joints, and the floats of its state; zeros where the card is refused. */

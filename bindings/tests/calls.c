@@ -118,6 +118,9 @@ static void record_refusals(void) {
     joint[2] |= 1;
     card_refused(&card, LINKAGE_UNUSED_BITS);
     joint[2] ^= 1;
+    body_of(&card, 1)[0] |= 1;
+    card_refused(&card, LINKAGE_DOMINANCE);
+    body_of(&card, 1)[0] ^= 1;
     put(card.bytes + 4, 0x7fc00000, 4);
     card_refused(&card, LINKAGE_FLOAT_OUT_OF_RANGE);
     put_float(card.bytes + 4, 0);

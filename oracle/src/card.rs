@@ -1,4 +1,4 @@
-//! Document 01, 'The card' and 'Turned back': the layout, its encoding and decoding, and the refusals 1 to 12.
+//! Document 01, 'The card' and 'Turned back', with document 02's changes: the layout, its encoding and decoding, and the refusals up to 12.
 
 use crate::solver;
 
@@ -8,6 +8,9 @@ pub const JOINT_BYTES: usize = 123;
 pub const BODY_NUMBERS: usize = 13;
 pub const JOINT_NUMBERS: usize = 12;
 pub const CAPACITY: usize = 32;
+
+/// The refusals of a card, in the order in which they are asked.
+pub const REFUSALS: [u32; 11] = [1, 2, 3, 4, 5, 6, 17, 7, 8, 9, 10];
 
 /// A card as its fields, whatever they hold: not every value is one that the checks accept.
 #[derive(Clone, Debug, Default)]
@@ -25,6 +28,7 @@ pub struct Card {
 pub struct Body {
     pub anchored: bool,
     pub locks: [bool; 3],
+    /// Eight bits that must be zero: document 02, point 5.
     pub dominance: i8,
     pub zero: u32,
     pub position: [f32; 3],
@@ -284,7 +288,7 @@ impl Card {
 
 // ------------------------------------------------------------------------------------------------------------------------------- checks
 
-/// The card's fields where none of the refusals 1 to 10 applies, else the number of the first that does.
+/// The card's fields where none of [`REFUSALS`] applies, else the number of the first that does.
 pub fn check(bytes: &[u8]) -> Result<Card, u32> {
     let mut card = Card::default();
     check_into(&mut card, bytes)?;
@@ -316,6 +320,9 @@ pub fn check_into(card: &mut Card, bytes: &[u8]) -> Result<(), u32> {
     card.decode(bytes);
     if card.zero != 0 || !card.bodies.iter().all(body_fits) || !card.joints.iter().all(joint_fits) {
         return Err(6);
+    }
+    if card.bodies.iter().any(|body| body.dominance != 0) {
+        return Err(17);
     }
     if !within(&[card.gravity, card.warm_coefficient])
         || card.warm_coefficient < 0.0
@@ -613,7 +620,6 @@ mod tests {
         let mut card = pair(HINGE);
         card.joints[0].motor = 2;
         card.joints[0].motor_numbers = [1.0, -2.0, 3.0, 4.0, 5.0];
-        card.bodies[0].dominance = -3;
         card.bodies[0].locks = [false, true, false];
         let bytes = card.encode();
         assert_eq!(bytes[0], 1);
@@ -708,7 +714,19 @@ mod tests {
             expect(BALL, 6, |card| card.bodies[1].inv_inertia[5] = number);
         }
         expect(BALL, 6, |card| card.bodies[1].locks[1] = true);
-        expect(BALL, 6, |card| card.bodies[1].dominance = -128);
+        for bit in 0..8 {
+            let dominance = (1u8 << bit) as i8;
+            expect(BALL, 17, |card| card.bodies[0].dominance = dominance);
+            expect(BALL, 6, |card| card.bodies[1].dominance = dominance);
+        }
+        expect(BALL, 6, |card| {
+            card.bodies[0].dominance = 1;
+            card.joints[0].zero = 1;
+        });
+        expect(BALL, 17, |card| {
+            card.bodies[0].dominance = 1;
+            card.gravity = f32::NAN;
+        });
         expect(BALL, 0, |card| card.bodies[1].center_of_mass[1] = -0.0);
         for zero in [1, 8] {
             expect(BALL, 6, |card| card.bodies[0].zero = zero);

@@ -446,7 +446,6 @@ fn zero_body(random: &mut Random) -> Body {
             inertia
         },
         locks: random.locks(),
-        dominance: random.dominance(),
         ..Body::UNIT
     };
     match random.one_in(5) {

@@ -1,7 +1,7 @@
 //! Random and boundary inputs: numbers, poses, single joints, cards, damaged cards and states. Every draw follows from a seed.
 
 use crate::card::{
-    self, Body, Card, Joint, BALL, BODY_BYTES, BODY_NUMBERS, FIXED, HEADER_BYTES, HINGE,
+    self, Body, Card, Joint, BALL, BODY_BYTES, BODY_NUMBERS, CAPACITY, FIXED, HEADER_BYTES, HINGE,
     JOINT_BYTES, SLIDE, TETHER,
 };
 use crate::solver::{Inertia, Motion, Pose};
@@ -324,13 +324,6 @@ impl Random {
             _ => [false; 3],
         }
     }
-
-    pub fn dominance(&mut self) -> i8 {
-        match self.below(5) {
-            0 => self.pick(&[-128, 127, 1, -1, 5]),
-            _ => 0,
-        }
-    }
 }
 
 pub fn ordered([a, b]: [f32; 2]) -> [f32; 2] {
@@ -435,8 +428,8 @@ fn pose_of(numbers: &[f32]) -> Pose {
 }
 
 impl JointCase {
-    /// How many of [`JointCase::numbers`] are whole: kind, limit bits, motor, anchored, locks, dominances.
-    pub const WHOLE: usize = 8;
+    /// How many of [`JointCase::numbers`] are whole: kind, limit bits, motor, anchored, locks.
+    pub const WHOLE: usize = 6;
     pub const NUMBERS: usize = JointCase::WHOLE + 95;
 
     pub fn numbers(&self) -> Vec<f32> {
@@ -448,8 +441,6 @@ impl JointCase {
             self.anchored as f32,
             number_of_locks(self.inertia1.locks) as f32,
             number_of_locks(self.inertia2.locks) as f32,
-            self.inertia1.dominance as f32,
-            self.inertia2.dominance as f32,
         ];
         for part in [
             &joint.anchor1[..],
@@ -502,10 +493,10 @@ impl JointCase {
             limit2_range: n[23..25].try_into().unwrap(),
             motor_numbers: n[25..30].try_into().unwrap(),
         };
-        let inertia = |at: usize, locks: u32, dominance: i32| Inertia {
+        let inertia = |at: usize, locks: u32| Inertia {
             inv_mass: n[at],
             inv_inertia: n[at + 1..at + 7].try_into().unwrap(),
-            dominance: dominance.clamp(-128, 127) as i16,
+            dominance: 0,
             locks: locks_of_number(locks),
         };
         JointCase {
@@ -516,8 +507,8 @@ impl JointCase {
             motor_total: n[50..53].try_into().unwrap(),
             motion1: motion_of(&n[53..66]),
             motion2: motion_of(&n[66..79]),
-            inertia1: inertia(79, whole(4) as u32, whole(6)),
-            inertia2: inertia(86, whole(5) as u32, whole(7)),
+            inertia1: inertia(79, whole(4) as u32),
+            inertia2: inertia(86, whole(5) as u32),
             warm_coefficient: n[93],
             dt: n[94],
         }
@@ -602,7 +593,7 @@ fn inertia(random: &mut Random) -> Inertia {
     Inertia {
         inv_mass: random.inv_mass(),
         inv_inertia: random.inv_inertia(),
-        dominance: random.dominance() as i16,
+        dominance: 0,
         locks: random.locks(),
     }
 }
@@ -901,9 +892,6 @@ pub(crate) fn link(random: &mut Random, position: [f32; 3]) -> Body {
     if random.one_in(12) {
         body.locks = random.locks();
     }
-    if random.one_in(10) {
-        body.dominance = random.dominance();
-    }
     body
 }
 
@@ -992,7 +980,6 @@ pub fn pair(random: &mut Random) -> Card {
         ]) {
             body.inv_mass = inertia.inv_mass;
             body.inv_inertia = inertia.inv_inertia;
-            body.dominance = inertia.dominance as i8;
             body.locks = inertia.locks;
             body.linear_velocity = motion.linear_velocity;
             body.angular_velocity = motion.angular_velocity;
@@ -1027,7 +1014,6 @@ pub fn any_card(random: &mut Random) -> Card {
             true => Body::ANCHORED,
             false => Body {
                 locks: random.locks(),
-                dominance: random.dominance(),
                 linear_velocity: [0; 3].map(|_| number(random)),
                 angular_velocity: [0; 3].map(|_| number(random)),
                 inv_mass: random.inv_mass(),
@@ -1273,6 +1259,22 @@ pub fn at_borders() -> Vec<Vec<u8>> {
     cards
 }
 
+/// A card of 32 bodies, one of which has one bit of its dominance set.
+pub fn dominant(body: usize, bit: usize, anchored: bool) -> Vec<u8> {
+    let mut bodies = vec![Body::UNIT; CAPACITY];
+    if anchored {
+        bodies[body] = Body::ANCHORED;
+    }
+    bodies[body].dominance = (1u8 << bit) as i8;
+    let card = Card {
+        edition: 1,
+        rate: 64,
+        bodies,
+        ..Card::default()
+    };
+    card.encode()
+}
+
 /// Bytes of a length: all at random, or with a header that passes, or with one that fits the length.
 pub fn random_bytes(random: &mut Random, length: usize) -> Vec<u8> {
     let mut bytes: Vec<u8> = (0..length).map(|_| random.bits() as u8).collect();
@@ -1299,7 +1301,7 @@ pub fn random_bytes(random: &mut Random, length: usize) -> Vec<u8> {
     bytes
 }
 
-/// A card to which refusal `number`, 1 to 10, applies; other damage is left as it is.
+/// A card to which refusal `number` applies; other damage is left as it is.
 pub fn damage(random: &mut Random, bytes: &mut Vec<u8>, number: u32) {
     if number == 1 {
         bytes.truncate(random.below(HEADER_BYTES));
@@ -1353,6 +1355,18 @@ pub fn damage(random: &mut Random, bytes: &mut Vec<u8>, number: u32) {
                 }
             }
         }
+        17 => {
+            let moving = |i: &usize| bytes.get(body(*i)).is_some_and(|byte| byte & 0x80 == 0);
+            let moving: Vec<usize> = (0..bodies).filter(moving).collect();
+            if !moving.is_empty() {
+                // The last four bits of a body's first byte, and the first four of its second.
+                let bit = random.below(8);
+                let (at, bit) = (body(random.pick(&moving)) + bit / 4, (bit + 4) % 8);
+                if at < bytes.len() {
+                    bytes[at] |= 0x80 >> bit;
+                }
+            }
+        }
         7 => {
             let value = random.pick(&[f32::NAN, f32::INFINITY, 1024f32.next_up(), -2000.0]);
             let place = match random.below(3) {
@@ -1398,7 +1412,7 @@ pub fn damage(random: &mut Random, bytes: &mut Vec<u8>, number: u32) {
 pub fn damaged_card(random: &mut Random) -> Vec<u8> {
     let mut bytes = card(random).encode();
     for _ in 0..=random.below(2) {
-        let number = 1 + random.below(10) as u32;
+        let number = random.pick(&card::REFUSALS);
         damage(random, &mut bytes, number);
     }
     bytes
@@ -1531,7 +1545,7 @@ mod tests {
 
     #[test]
     fn damage_reaches_each_refusal() {
-        for number in 1..=10 {
+        for number in card::REFUSALS {
             let mut reached = 0;
             for case in 0..200 {
                 let random = &mut Random::of_case(4, case);

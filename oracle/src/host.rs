@@ -63,8 +63,6 @@ extern "C" {
         anchored: u32,
         locks1: u32,
         locks2: u32,
-        dominance1: i16,
-        dominance2: i16,
         i: *const f32,
         m: usize,
         o: *mut f32,
@@ -77,25 +75,13 @@ extern "C" {
         anchored: u32,
         locks1: u32,
         locks2: u32,
-        dominance1: i16,
-        dominance2: i16,
-        i: *const f32,
-        m: usize,
-        o: *mut f32,
-        n: usize,
-    ) -> u32;
-    fn linkage_dominated(
-        locks1: u32,
-        locks2: u32,
-        dominance1: i16,
-        dominance2: i16,
         i: *const f32,
         m: usize,
         o: *mut f32,
         n: usize,
     ) -> u32;
     fn linkage_project(i: *const f32, m: usize, o: *mut f32, n: usize) -> u32;
-    fn linkage_dummy(o: *mut f32, n: usize) -> i16;
+    fn linkage_dummy(o: *mut f32, n: usize) -> u32;
 }
 
 #[link(name = "host", kind = "static")]
@@ -237,19 +223,8 @@ pub fn answer(name: &str, x: &[f32]) -> Vec<f32> {
             "fixed angle constraint" => call(x, 33, |i, m, o, n| {
                 linkage_fixed_angle_constraint(i, m, o, n)
             }),
-            "dominance" => {
-                let [locks1, locks2] = [whole(x[0]), whole(x[1])];
-                let [dominance1, dominance2] = [x[2] as i16, x[3] as i16];
-                call(&x[4..], 20, |i, m, o, n| {
-                    linkage_dominated(locks1, locks2, dominance1, dominance2, i, m, o, n)
-                })
-            }
             "projection" => call(x, 13, |i, m, o, n| linkage_project(i, m, o, n)),
-            "dummies" => {
-                let mut output = vec![0.0; 24];
-                output[23] = linkage_dummy(output.as_mut_ptr(), 23) as f32;
-                output
-            }
+            "dummies" => call(x, 23, |_, _, o, n| linkage_dummy(o, n)),
             "joints" => joint(x),
             _ => panic!("host_parts has no {name}"),
         }
@@ -260,20 +235,15 @@ pub fn answer(name: &str, x: &[f32]) -> Vec<f32> {
 unsafe fn joint(x: &[f32]) -> Vec<f32> {
     let [kind, limits, motor, anchored] = [0, 1, 2, 3].map(|i| whole(x[i]));
     let [locks1, locks2] = [whole(x[4]), whole(x[5])];
-    let [dominance1, dominance2] = [x[6] as i16, x[7] as i16];
-    let x = &x[8..];
+    let x = &x[6..];
     let prepared = call(x, 21, |i, m, o, n| {
         linkage_prepare(kind, limits, motor, i, m, o, n)
     });
     let warmed = call(x, 26, |i, m, o, n| {
-        linkage_warm_start(
-            kind, limits, motor, anchored, locks1, locks2, dominance1, dominance2, i, m, o, n,
-        )
+        linkage_warm_start(kind, limits, motor, anchored, locks1, locks2, i, m, o, n)
     });
     let solved = call(x, 39, |i, m, o, n| {
-        linkage_solve(
-            kind, limits, motor, anchored, locks1, locks2, dominance1, dominance2, i, m, o, n,
-        )
+        linkage_solve(kind, limits, motor, anchored, locks1, locks2, i, m, o, n)
     });
     [prepared, warmed, solved].concat()
 }

@@ -18,7 +18,6 @@ use bevy::prelude::{Entity, Query, Res, ResMut, Time};
 use bevy::query::QueryData;
 use bevy_math::Quat;
 use std::cell::RefCell;
-use std::cmp::Ordering;
 
 /// Check, sizes and start are the oracle's.
 pub const LEAN: Table = Table {
@@ -61,7 +60,6 @@ struct Body {
 struct Joint {
     bodies: [usize; 2],
     anchored: [bool; 2],
-    /// As dominance chooses them.
     inertias: [SolverBodyInertia; 2],
     component: AnyJoint,
 }
@@ -88,18 +86,9 @@ impl Joint {
         Joint {
             bodies: [body1, body2],
             anchored: [bodies[body1].anchored, bodies[body2].anchored],
-            inertias: choose(&inertias[body1], &inertias[body2]),
+            inertias: [inertias[body1].clone(), inertias[body2].clone()],
             component: (&joint.solver_joint()).into(),
         }
-    }
-}
-
-/// The dominance choice of avian's `solve_xpbd_joint`, which depends on the card alone.
-fn choose(inertia1: &SolverBodyInertia, inertia2: &SolverBodyInertia) -> [SolverBodyInertia; 2] {
-    match inertia1.dominance().cmp(&inertia2.dominance()) {
-        Ordering::Greater => [SolverBodyInertia::DUMMY, inertia2.clone()],
-        Ordering::Less => [inertia1.clone(), SolverBodyInertia::DUMMY],
-        Ordering::Equal => [inertia1.clone(), inertia2.clone()],
     }
 }
 

@@ -12,7 +12,7 @@ fn number(answer: Result<(), u32>) -> u32 {
     }
 }
 
-/// 0 where the card is accepted, else the number of the first refusal, 1 to 10.
+/// 0 where the card is accepted, else the number of the first refusal.
 pub fn check(card: &[u8]) -> u32 {
     number(card::check(card).map(|_| ()))
 }

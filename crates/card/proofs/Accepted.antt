@@ -20,7 +20,7 @@ use Rattle.card.specs.Format.{Range}
 use Rattle.card.specs.Format.{Any, Bounded, NotNegative, Cap}
 use Rattle.card.specs.Format.{bitsAt, bound, Cell, widthOf, numbersAt, recordsAt, anyCell, unusedSet, outOf, outOfRange}
 use Rattle.card.specs.Card.{at, body, noKind, kinds, kindAt, editions, editionAt, cardOf}
-use Rattle.card.specs.Checks.{any, misfit, anchored, wrongPair, Refusal, refuse, firstOf, cardChecks, checkOf}
+use Rattle.card.specs.Checks.{any, misfit, dominant, anchored, wrongPair, Refusal, refuse, firstOf, cardChecks, checkOf}
 use Rattle.card.specs.Accepted.{Real, In, Ranged, Accepted}
 use Rattle.card.proofs.Bools.{both, or-left, or-right}
 use Rattle.card.proofs.Cut.{records-length, record-at}
@@ -176,3 +176,16 @@ accepted card z =
                 };
           };
     }
+
+-- ---- 17
+
+-- a body that is missing has no number set
+none-set : (l : List (List ℕ)) (i : ℕ) → any dominant l ≡ false → at 4 (getD l i []) ≡ 0
+unfolding any
+none-set [] i e = refl
+none-set (b ∷ l) zero e = eqb-true (at 4 b) 0 (not-false (eqb (at 4 b) 0) (or-left (dominant b) (any dominant l) e))
+none-set (b ∷ l) (suc i) e = none-set l i (or-right (dominant b) (any dominant l) e)
+
+pub no-dominance : (card : List ℕ) → checkOf card ≡ 0 → (i : ℕ) → at 4 (getD (cardOf card .bodies) i []) ≡ 0
+unfolding checkOf
+no-dominance card z i = none-set (cardOf card .bodies) i (passed (cardChecks (editionAt card) card (cardOf card)) tt z 17)

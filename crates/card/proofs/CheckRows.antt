@@ -1,4 +1,4 @@
--- The rows of checks 6 to 10, from what is found in the records.
+-- The rows of the checks from 6 on, from what is found in the records.
 use Prim.Native.Nat.{ℕ, _+_, _*_}
 use native.Mathlib.Omega.{arith}
 use mathlib.Core.Path.{_≡_, refl, sym, _∙_}
@@ -8,7 +8,7 @@ use Rattle.vector.specs.Rotation.{normSquaredOf}
 use Rattle.card.specs.declared.checks.Faults.{Faults}
 use Rattle.card.specs.Format.{numbersAt, recordsAt, unusedSet, outOfRange}
 use Rattle.card.specs.Card.{at, body, quat}
-use Rattle.card.specs.Checks.{any, misfit, reversed, offUnit, offAxis, wrongPair}
+use Rattle.card.specs.Checks.{any, misfit, dominant, reversed, offUnit, offAxis, wrongPair}
 use Rattle.card.specs.Parts.{header1, joint1, headerFaults, bodyFaults, jointFaults, faultsOf, usedOut, pairOf}
 use Rattle.card.proofs.Bools.{or-left, or-right}
 use Rattle.card.proofs.Unused.{used-enough, any-agree}
@@ -36,6 +36,10 @@ module _ (card : List ℕ) (bodies joints : ℕ) where
     -- no bit is set that may not be
     abbrev Clean : Type 0
     Clean = (h .bits || b .bits || j .bits) ≡ false
+
+    pub row-17 : b .dominance ≡ any dominant body-rows
+    unfolding bodyFaults faultsOf
+    row-17 = rw eb refl
 
     pub row-7 : Clean → (h .floats || b .floats || j .floats) ≡ (outOfRange header1 header-row || any (outOfRange body) body-rows || any (outOfRange joint1) joint-rows)
     unfolding headerFaults bodyFaults jointFaults faultsOf

@@ -43,7 +43,7 @@ header-rows = row 1 always Bounded ∷ row 1 always NotNegative ∷ []
 
 abbrev header-found : List ℕ → HeaderBits → Faults
 header-found l h =
-    fieldFaults (fieldFaults (faults (isSet (h .zero)) false false false) l true (neg bound) bound 4 1) l true f0 bound 8 1
+    fieldFaults (fieldFaults (faults (isSet (h .zero)) false false false false) l true (neg bound) bound 4 1) l true f0 bound 8 1
 
 module _ (l : List ℕ) where
   abbrev header-numbers : List ℕ
@@ -74,7 +74,7 @@ body-own b = b .anchored && (isSet (b .«lock_x») || isSet (b .«lock_y») || i
 
 abbrev body-fields : List ℕ → BodyBits → Faults
 body-fields l b =
-    let start = faults (body-own b) false false false in
+    let start = faults (body-own b) (isSet (b .dominance)) false false false in
     let f1 = fieldFaults start l true (neg bound) bound 2 10 in
     let f2 = fieldFaults f1 l (not (b .anchored)) (neg bound) bound 42 6 in
     let f3 = fieldFaults f2 l (not (b .anchored)) f0 bound 66 1 in
@@ -106,8 +106,8 @@ module _ (l : List ℕ) where
   unfolding fieldFaults outsideAt outOf bodyBits
   body-beyond = record-fieldwise (beyond body-numbers) l body-cells body-rows
 
-  pub body-is : let g = body-fields l (bodyBits body-numbers) in faults (g .bits) (g .floats) false (offUnit (normSquaredOf (quatAt l 14))) ≡ bodyFaults body-numbers
-  unfolding bodyFaults fieldFaults quatAt floatAt numbersAt
+  pub body-is : let g = body-fields l (bodyBits body-numbers) in faults (g .bits) (g .dominance) (g .floats) false (offUnit (normSquaredOf (quatAt l 14))) ≡ bodyFaults body-numbers
+  unfolding bodyFaults fieldFaults quatAt floatAt numbersAt bodyBits
   body-is = rw (body-unused, body-beyond) refl
 
 -- ---- a joint of edition 1
@@ -125,7 +125,7 @@ abbrev joint-fields : List ℕ → JointBits → JointKind → Faults
 joint-fields l b k =
     let many = k .compliances in
     let motor = isSet (b .motor) in
-    let start = faults (isSet (b .zero)) false false false in
+    let start = faults (isSet (b .zero)) false false false false in
     let f1 = fieldFaults start l true (neg bound) bound 3 6 in
     let f2 = fieldFaults f1 l (k .bases) (neg bound) bound 27 8 in
     let f3 = fieldFaults f2 l (k .axis) (neg bound) bound 59 3 in
@@ -140,7 +140,7 @@ joint-fields l b k =
     fieldFaults f11 l motor (neg bound) bound 115 2
 
 abbrev joint-found : List ℕ → JointBits → JointKind → Faults → Faults
-joint-found l b k g = faults (g .bits || not (k .fits)) (g .floats) (limitAt l 87 || limitAt l 95) (normsAt l (k .bases) (k .axis))
+joint-found l b k g = faults (g .bits || not (k .fits)) false (g .floats) (limitAt l 87 || limitAt l 95) (normsAt l (k .bases) (k .axis))
 
 module _ (l : List ℕ) where
   abbrev joint-numbers : List ℕ
@@ -171,7 +171,7 @@ module _ (l : List ℕ) where
   -- as the calls give them
   pub joint-are : {b' : JointBits} {k' : JointKind} {f1 f2 f3 f4 f5 f6 f7 f8 f9 f10 f11 f12 : Faults} {u v w : Bool}
       → b' ≡ b → k' ≡ kindFor (b' .kind) (b' .first) (b' .second) (isSet (b' .motor))
-      → f1 ≡ fieldFaults (faults (isSet (b' .zero)) false false false) l true (neg bound) bound 3 6
+      → f1 ≡ fieldFaults (faults (isSet (b' .zero)) false false false false) l true (neg bound) bound 3 6
       → f2 ≡ fieldFaults f1 l (k' .bases) (neg bound) bound 27 8
       → f3 ≡ fieldFaults f2 l (k' .axis) (neg bound) bound 59 3
       → f4 ≡ fieldFaults f3 l (ltb 0 (k' .compliances)) f0 bound 71 1
@@ -184,6 +184,6 @@ module _ (l : List ℕ) where
       → f11 ≡ fieldFaults f10 l (isSet (b' .motor)) f0 largest 111 1
       → f12 ≡ fieldFaults f11 l (isSet (b' .motor)) (neg bound) bound 115 2
       → u ≡ limitAt l 87 → v ≡ limitAt l 95 → w ≡ normsAt l (k' .bases) (k' .axis)
-      → faults (f12 .bits || not (k' .fits)) (f12 .floats) (u || v) w ≡ jointFaults joint-numbers
+      → faults (f12 .bits || not (k' .fits)) false (f12 .floats) (u || v) w ≡ jointFaults joint-numbers
   unfolding jointBits
   joint-are eb ek e1 e2 e3 e4 e5 e6 e7 e8 e9 e10 e11 e12 eu ev ew = rw (e12, e11, e10, e9, e8, e7, e6, e5, e4, e3, e2, e1, eu, ev, ew, ek, eb) joint-is

@@ -1,4 +1,4 @@
--- Document 01, 'Turned back', 1 to 10: the refusals of a card in their order, each over the whole card.
+-- Document 01, 'Turned back', 1 to 10, and document 02: the refusals of a card in their order, each over the whole card.
 use Prim.Native.Nat.{ℕ, _+_, _*_}
 use mathlib.Core.Bool.{Bool, true, false, not, _||_, _&&_}
 use mathlib.Core.List.{List, [], _∷_}
@@ -19,6 +19,10 @@ any p (a ∷ l) = p a || any p l
 -- a kind, limit or motor bit does not fit
 abbrev pub misfit : List ℕ → Bool
 misfit j = not (kindOf j .fits (flag 3 j) (flag 4 j) (motored j))
+
+-- document 02, point 5: a dominance is set (of an anchored body this is 6)
+abbrev pub dominant : List ℕ → Bool
+dominant b = not (eqb (at 4 b) 0)
 
 -- a limit's min, number k, is above its max
 abbrev pub reversed : ℕ → List ℕ → Bool
@@ -55,6 +59,7 @@ firstOf (refuse n false ∷ checks) = firstOf checks
 abbrev pub recordChecks : Edition → Card → List Refusal
 recordChecks e c =
     refuse 6 (unusedSet (e .header) (c .header) || any (unusedSet body) (c .bodies) || any (λ j. unusedSet (e .joint) j || misfit j) (c .joints))
+    ∷ refuse 17 (any dominant (c .bodies))
     ∷ refuse 7 (outOfRange (e .header) (c .header) || any (outOfRange body) (c .bodies) || any (outOfRange (e .joint)) (c .joints))
     ∷ refuse 8 (any (λ j. reversed 28 j || reversed 30 j) (c .joints))
     ∷ refuse 9 (any (λ b. offUnit (normSquaredOf (quat b 9))) (c .bodies) || any offAxis (c .joints))

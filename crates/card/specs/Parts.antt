@@ -17,7 +17,7 @@ use Rattle.card.specs.declared.records.JointBits.{JointBits}
 use Rattle.card.specs.declared.checks.Faults.{Faults}
 use Rattle.card.specs.Format.{bitsAt, Cell, numbersAt, recordsAt, anyCell, unusedSet, outOf}
 use Rattle.card.specs.Card.{at, flag, header, body, kindAt, joint, Edition, edition, Card, quat}
-use Rattle.card.specs.Checks.{any, misfit, reversed, offUnit, offAxis, wrongPair}
+use Rattle.card.specs.Checks.{any, misfit, dominant, reversed, offUnit, offAxis, wrongPair}
 
 -- the records of edition 1
 abbrev pub header1 : List Cell
@@ -92,31 +92,31 @@ setAt part at n = not (eqb (wordAt part at n) 0)
 unfoldable pub outsideAt : List ℕ → Float → Float → ℕ → ℕ → Bool
 outsideAt part low high at n = outside (f32 (wordAt part at n)) low high
 
-abbrev pub faults : Bool → Bool → Bool → Bool → Faults
-faults b f l n = record { bits = b; floats = f; limits = l; norms = n }
+abbrev pub faults : Bool → Bool → Bool → Bool → Bool → Faults
+faults b d f l n = record { bits = b; dominance = d; floats = f; limits = l; norms = n }
 
 unfoldable pub orFaults : Faults → Faults → Faults
-orFaults a b = faults (a .bits || b .bits) (a .floats || b .floats) (a .limits || b .limits) (a .norms || b .norms)
+orFaults a b = faults (a .bits || b .bits) (a .dominance || b .dominance) (a .floats || b .floats) (a .limits || b .limits) (a .norms || b .norms)
 
 unfoldable pub fieldFaults : Faults → List ℕ → Bool → Float → Float → ℕ → ℕ → Faults
 fieldFaults f part used low high at count =
-    faults (f .bits || anyTo (λ n. not used && setAt part at n) count) (f .floats || anyTo (λ n. outsideAt part low high at n && used) count) (f .limits) (f .norms)
+    faults (f .bits || anyTo (λ n. not used && setAt part at n) count) (f .dominance) (f .floats || anyTo (λ n. outsideAt part low high at n && used) count) (f .limits) (f .norms)
 
 -- a number that has use is out of range: what is left of check 7 once check 6 has passed
 abbrev pub usedOut : List Cell → List ℕ → Bool
 usedOut cs ns = anyCell (λ c n. outOf (c .range) n && c .used ns) cs ns
 
 unfoldable pub headerFaults : List ℕ → Faults
-headerFaults ns = faults (unusedSet header1 ns) (usedOut header1 ns) false false
+headerFaults ns = faults (unusedSet header1 ns) false (usedOut header1 ns) false false
 
 unfoldable pub bodyFaults : List ℕ → Faults
-bodyFaults ns = faults (unusedSet body ns) (usedOut body ns) false (offUnit (normSquaredOf (quat ns 9)))
+bodyFaults ns = faults (unusedSet body ns) (dominant ns) (usedOut body ns) false (offUnit (normSquaredOf (quat ns 9)))
 
 unfoldable pub jointFaults : List ℕ → Faults
-jointFaults ns = faults (unusedSet joint1 ns || misfit ns) (usedOut joint1 ns) (reversed 28 ns || reversed 30 ns) (offAxis ns)
+jointFaults ns = faults (unusedSet joint1 ns || misfit ns) false (usedOut joint1 ns) (reversed 28 ns || reversed 30 ns) (offAxis ns)
 
 unfoldable pub faultsOf : (List ℕ → Faults) → List (List ℕ) → Faults
-faultsOf f l = faults (any (λ r. f r .bits) l) (any (λ r. f r .floats) l) (any (λ r. f r .limits) l) (any (λ r. f r .norms) l)
+faultsOf f l = faults (any (λ r. f r .bits) l) (any (λ r. f r .dominance) l) (any (λ r. f r .floats) l) (any (λ r. f r .limits) l) (any (λ r. f r .norms) l)
 
 unfoldable pub pairOf : List (List ℕ) → List ℕ → Bool
 pairOf bodies j = wrongPair bodies (at 1 j) (at 2 j)

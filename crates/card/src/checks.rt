@@ -1,4 +1,4 @@
-// Refusals 1 to 10. The records are looked at once, each for all that is checked of it; the answer is the first check that a record fails.
+// The refusals of a card. The records are looked at once, each for all that is checked of it; the answer is the first check that a record fails.
 ghost use mathlib.Core.Path.{_≡_};
 ghost use Prim.Native.Nat.{_+_, _*_, _≤_, _<_};
 ghost use lib.ListN.{length};
@@ -76,10 +76,12 @@ fn any_outside(part: &[u8], low: f32, high: f32, at: usize, count: usize) -> boo
     false
 }
 
-// Which of the checks 6 to 9 a record fails, or one of several records.
+// Which of the checks a record fails by itself, or one of several records.
 pub struct Faults {
     // 6
     pub bits: bool,
+    // 17
+    pub dominance: bool,
     // 7
     pub floats: bool,
     // 8
@@ -94,6 +96,7 @@ impl Faults {
     {
         Faults {
             bits: self.bits | other.bits,
+            dominance: self.dominance | other.dominance,
             floats: self.floats | other.floats,
             limits: self.limits | other.limits,
             norms: self.norms | other.norms,
@@ -108,6 +111,7 @@ impl Faults {
         if used {
             return Faults {
                 bits: self.bits,
+                dominance: self.dominance,
                 floats: self.floats | any_outside(part, low, high, at, count),
                 limits: self.limits,
                 norms: self.norms,
@@ -115,6 +119,7 @@ impl Faults {
         }
         Faults {
             bits: self.bits | any_set(part, at, count),
+            dominance: self.dominance,
             floats: self.floats,
             limits: self.limits,
             norms: self.norms,
@@ -129,6 +134,7 @@ fn header_faults(part: &[u8]) -> Faults
     let h = header_bits(part);
     let f = Faults {
         bits: h.zero != 0,
+        dominance: false,
         floats: false,
         limits: false,
         norms: false,
@@ -165,6 +171,7 @@ fn body_faults(part: &[u8]) -> Faults
     let locked = (b.lock_x != 0) | (b.lock_y != 0) | (b.lock_z != 0);
     let f = Faults {
         bits: b.anchored & (locked | (b.dominance != 0)) | (b.zero != 0),
+        dominance: b.dominance != 0,
         floats: false,
         limits: false,
         norms: false,
@@ -175,6 +182,7 @@ fn body_faults(part: &[u8]) -> Faults
         .field(part, moving, -BOUND, BOUND, INV_INERTIA, 6);
     Faults {
         bits: g.bits,
+        dominance: g.dominance,
         floats: g.floats,
         limits: false,
         norms: rotation_fault(quat_at(part, ROTATION)),
@@ -208,6 +216,7 @@ fn joint_faults(part: &[u8]) -> Faults
     let many = kind.compliances;
     let f = Faults {
         bits: b.zero != 0,
+        dominance: false,
         floats: false,
         limits: false,
         norms: false,
@@ -227,6 +236,7 @@ fn joint_faults(part: &[u8]) -> Faults
         .field(part, motor, -BOUND, BOUND, MOTOR + 12, 2);
     Faults {
         bits: g.bits | !kind.fits,
+        dominance: false,
         floats: g.floats,
         limits: limit_fault(part, LIMIT1) | limit_fault(part, LIMIT2),
         norms: norms_fault(part, kind.bases, kind.axis),
@@ -240,6 +250,7 @@ fn bodies_faults(card: &[u8], at: usize, count: usize) -> Faults
 {
     let mut f = Faults {
         bits: false,
+        dominance: false,
         floats: false,
         limits: false,
         norms: false,
@@ -262,6 +273,7 @@ fn joints_faults(card: &[u8], at: usize, count: usize) -> Faults
 {
     let mut f = Faults {
         bits: false,
+        dominance: false,
         floats: false,
         limits: false,
         norms: false,
@@ -330,7 +342,7 @@ fn rate_fault(rate: u32) -> bool
     (rate < SLOWEST) | (FASTEST < rate)
 }
 
-// Checks 6 to 10, of a card with so many bodies and joints.
+// The checks from 6 on, of a card with so many bodies and joints.
 fn check_records(card: &[u8], bodies: usize, joints: usize) -> Answer
     requires { ⌜ length (now card) ≡ 12 + 94 * bodies + 123 * joints ⌝ }
     ensures { λ r. ⌜ numberOf r ≡ firstOf (recordChecks row1 (card1 (now (card .entry)) bodies joints)) ⌝ }
@@ -342,6 +354,9 @@ fn check_records(card: &[u8], bodies: usize, joints: usize) -> Answer
     let j = joints_faults(card, first, joints);
     if h.bits | b.bits | j.bits {
         return Answer::UnusedBits;
+    }
+    if b.dominance {
+        return Answer::Dominance;
     }
     if h.floats | b.floats | j.floats {
         return Answer::FloatOutOfRange;
@@ -358,7 +373,7 @@ fn check_records(card: &[u8], bodies: usize, joints: usize) -> Answer
     Answer::Done
 }
 
-// The first of the refusals 1 to 10 that applies to the card.
+// The first of the refusals that applies to the card.
 pub fn check(card: &[u8]) -> Answer
     ensures { λ r. ⌜ numberOf r ≡ checkOf (now (card .entry)) ⌝ }
 {

@@ -7,7 +7,6 @@ use mathlib.Core.Bool.{Bool, true, false}
 use mathlib.Core.List.{List, [], _∷_, map}
 use lib.ListN.{length, getD, drop, List·getD-map}
 use lib.Dec.{T}
-use lib.Signed.{ltZ}
 use lib.Ieee.{Float, binary32, ofBits, ofFields, fits, le}
 use lib.Ieee.Bits.{ofBits-fits}
 use Rattle.scalar.specs.Arith.{f32, f0}
@@ -35,8 +34,6 @@ use Rattle.card.proofs.Edition1.{only-edition, edition-is}
 use Rattle.card.proofs.Accepted.{accepted}
 use Rattle.loader.specs.Linkage.{Linkage, angularMotorIn, linearMotorIn, fixedIn, revoluteIn, prismaticIn, sphericalIn, distanceIn, kindIn, bodyIn, bodyOf, jointOf, linkageOf}
 use Rattle.tick.specs.Tick as tick
-use Rattle.tick.specs.Joint.{dominatedOf}
-use Rattle.tick.specs.declared.joint.InertiaPair.{InertiaPair}
 
 -- ---- inverse masses
 
@@ -59,14 +56,6 @@ masses-held i h = (
   unlocked-held (i .«translation_y_locked») (i .«inv_mass») h,
   unlocked-held (i .«translation_z_locked») (i .«inv_mass») h,
 )
-
-abbrev MassesHeld : InertiaPair → Type 0
-MassesHeld p = MassHeld (p .inertia1) × MassHeld (p .inertia2)
-
-dominated-held : (i₁ i₂ : SolverBodyInertia) → MassHeld i₁ → MassHeld i₂ → MassesHeld (dominatedOf i₁ i₂)
-unfolding dominatedOf
-dominated-held i₁ i₂ h k =
-    either MassesHeld (ltZ (i₂ .dominance) (i₁ .dominance)) _ _ (zero-held, k) (either MassesHeld (ltZ (i₁ .dominance) (i₂ .dominance)) _ _ (h, zero-held) (h, k))
 
 -- an anchored body's is zero
 body-held : (l : List ℕ) (p : ℕ) → Ranged body (numbersAt body l p) → MassHeld (bodyOf (numbersAt body l p) .inertia)
@@ -152,8 +141,11 @@ module _ (card : List ℕ) (z : checkOf card ≡ 0) (s : List Float) where
     setting-ok =
         let k = tick.joint K j in
         let n = has .joint j h in
-        let m = dominated-held _ _ (mass-held (k .body1) (rw (joint-is j) (n .body1))) (mass-held (k .body2) (rw (joint-is j) (n .body2))) in
-        record { dt-held = time-held; m₁ = masses-held _ (m .0); m₂ = masses-held _ (m .1) }
+        record {
+          dt-held = time-held;
+          m₁ = masses-held _ (mass-held (k .body1) (rw (joint-is j) (n .body1)));
+          m₂ = masses-held _ (mass-held (k .body2) (rw (joint-is j) (n .body2)));
+        }
 
     pub steps-ok : All StepOk (tick.steps K s j)
     unfolding tick.steps cardOf

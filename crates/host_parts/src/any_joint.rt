@@ -1,8 +1,8 @@
-// A joint of any kind: its prepared numbers, and the tick's own warm start and solve of it; the tick's choice by dominance, and its projections.
+// A joint of any kind: its prepared numbers, and the tick's own warm start and solve of it, and the tick's projections.
 //
-// A joint's call takes the card's kind, its limit bits (first 1, second 2), its motor, which body is anchored (0 none, 1, 2), both bodies' locks
-// and dominances, and 95 numbers: the joint's 30 in the card's order, two poses (20), the last tick's motor total (3), two bodies (26), two
-// inertias (14), the warm coefficient and dt.
+// A joint's call takes the card's kind, its limit bits (first 1, second 2), its motor, which body is anchored (0 none, 1, 2), both bodies' locks,
+// and 95 numbers: the joint's 30 in the card's order, two poses (20), the last tick's motor total (3), two bodies (26), two inertias (14), the warm
+// coefficient and dt.
 use crate::corrections::put_point;
 use crate::limits::angular_motor;
 use crate::limits::linear_motor;
@@ -35,7 +35,6 @@ use solver_body::SolverBody;
 use solver_body::SolverBodyInertia;
 use tick::body::project_angular_velocity;
 use tick::body::project_linear_velocity;
-use tick::joint::dominated;
 use tick::joint::solve_joint;
 use tick::joint::warm_start_joint;
 use vector::Vec3;
@@ -182,19 +181,13 @@ fn body(anchored: bool, input: &[f32], i: usize) -> SolverBody
     }
 }
 
-fn body_inertia(
-    anchored: bool,
-    input: &[f32],
-    i: usize,
-    locks: u32,
-    dominance: i16,
-) -> SolverBodyInertia
+fn body_inertia(anchored: bool, input: &[f32], i: usize, locks: u32) -> SolverBodyInertia
     requires { ⌜ i < 4000 ⌝ }
 {
     if anchored {
         SolverBodyInertia::DUMMY
     } else {
-        inertia(input, i, locks, dominance)
+        inertia(input, i, locks)
     }
 }
 
@@ -305,8 +298,6 @@ pub extern "C" fn linkage_warm_start(
     anchored: u32,
     locks1: u32,
     locks2: u32,
-    dominance1: i16,
-    dominance2: i16,
     input: &[f32],
     output: &mut [f32],
 ) -> u32 {
@@ -322,8 +313,8 @@ pub extern "C" fn linkage_warm_start(
         rigid_body(input, 40),
         last_totals(kind, input),
         bodies(anchored, input),
-        body_inertia(anchored == 1, input, 79, locks1, dominance1),
-        body_inertia(anchored == 2, input, 86, locks2, dominance2),
+        body_inertia(anchored == 1, input, 79, locks1),
+        body_inertia(anchored == 2, input, 86, locks2),
         number(input, 93),
         number(input, 94),
     );
@@ -353,8 +344,6 @@ pub extern "C" fn linkage_solve(
     anchored: u32,
     locks1: u32,
     locks2: u32,
-    dominance1: i16,
-    dominance2: i16,
     input: &[f32],
     output: &mut [f32],
 ) -> u32 {
@@ -369,8 +358,8 @@ pub extern "C" fn linkage_solve(
         rigid_body(input, 30),
         rigid_body(input, 40),
         bodies(anchored, input),
-        body_inertia(anchored == 1, input, 79, locks1, dominance1),
-        body_inertia(anchored == 2, input, 86, locks2, dominance2),
+        body_inertia(anchored == 1, input, 79, locks1),
+        body_inertia(anchored == 2, input, 86, locks2),
         number(input, 94),
     );
     put(output, 0, one_where(solved.finite));
@@ -388,31 +377,6 @@ fn put_inertia(output: &mut [f32], i: usize, body: SolverBodyInertia)
     put(output, i + 7, one_where(body.translation_x_locked));
     put(output, i + 8, one_where(body.translation_y_locked));
     put(output, i + 9, one_where(body.translation_z_locked));
-}
-
-// Two inertias (14) to the two that dominance leaves (20).
-#[no_mangle]
-pub extern "C" fn linkage_dominated(
-    locks1: u32,
-    locks2: u32,
-    dominance1: i16,
-    dominance2: i16,
-    input: &[f32],
-    output: &mut [f32],
-) -> u32 {
-    if input.len() != 14 {
-        return 1;
-    }
-    if output.len() != 20 {
-        return 1;
-    }
-    let chosen = dominated(
-        inertia(input, 0, locks1, dominance1),
-        inertia(input, 7, locks2, dominance2),
-    );
-    put_inertia(output, 0, chosen.inertia1);
-    put_inertia(output, 10, chosen.inertia2);
-    0
 }
 
 // A body, its pre-solve deltas, dt (21) to the body with both velocities projected (13).
@@ -434,11 +398,13 @@ pub extern "C" fn linkage_project(input: &[f32], output: &mut [f32]) -> u32 {
     0
 }
 
-// The dummy body and the dummy inertia (23), and the dummy's dominance.
+// The dummy body and the dummy inertia (23).
 #[no_mangle]
-pub extern "C" fn linkage_dummy(output: &mut [f32]) -> i16 {
+pub extern "C" fn linkage_dummy(output: &mut [f32]) -> u32 {
+    if output.len() != 23 {
+        return 1;
+    }
     put_solver_body(output, 0, SolverBody::DUMMY);
     put_inertia(output, 13, SolverBodyInertia::DUMMY);
-    let dummy = SolverBodyInertia::DUMMY;
-    dummy.dominance
+    0
 }

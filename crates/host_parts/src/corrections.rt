@@ -42,7 +42,7 @@ pub extern "C" fn linkage_weights(locks: u32, input: &[f32], output: &mut [f32])
     if output.len() != 11 {
         return 1;
     }
-    let body = inertia(input, 0, locks, 0);
+    let body = inertia(input, 0, locks);
     let t = body.inv_angular_inertia;
     let r = vec3(input, 7);
     let n = vec3(input, 10);
@@ -78,8 +78,8 @@ pub extern "C" fn linkage_positional_impulse(
     }
     let moved = positional_constraint::positional_impulse(
         body_pair(input, 0),
-        inertia(input, 26, locks1, 0),
-        inertia(input, 33, locks2, 0),
+        inertia(input, 26, locks1),
+        inertia(input, 33, locks2),
         vec3(input, 40),
         vec3(input, 43),
         vec3(input, 46),
@@ -164,8 +164,8 @@ pub extern "C" fn linkage_point_constraint(
     );
     let solved = constraint.solve(
         body_pair(input, 26),
-        inertia(input, 52, locks1, 0),
-        inertia(input, 59, locks2, 0),
+        inertia(input, 52, locks1),
+        inertia(input, 59, locks2),
         number(input, 66),
         number(input, 67),
     );

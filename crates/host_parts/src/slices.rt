@@ -79,13 +79,12 @@ pub fn body_pair(s: &[f32], i: usize) -> BodyPair
 }
 
 // Inverse mass and inverse inertia: 7 numbers. The locks of x, y and z count 4, 2 and 1.
-pub fn inertia(s: &[f32], i: usize, locks: u32, dominance: i16) -> SolverBodyInertia
+pub fn inertia(s: &[f32], i: usize, locks: u32) -> SolverBodyInertia
     requires { ⌜ i < 4000 ⌝ }
 {
     SolverBodyInertia {
         inv_mass: number(s, i),
         inv_angular_inertia: tensor(s, i + 1),
-        dominance,
         translation_x_locked: locks / 4 % 2 == 1,
         translation_y_locked: locks / 2 % 2 == 1,
         translation_z_locked: locks % 2 == 1,

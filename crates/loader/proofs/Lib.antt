@@ -1,5 +1,4 @@
 pub mod Parts
-pub mod Signed
 pub mod Accepted
 pub mod Records
 pub mod Rows

@@ -11,7 +11,6 @@ use Rattle.card.specs.Card.{body, cardOf}
 use Rattle.card.specs.Checks.{checkOf}
 use Rattle.card.specs.Parts.{joint1}
 use Rattle.card.proofs.Cut.{records-length, record-at}
-use Rattle.card.proofs.Packed.{below}
 use Rattle.loader.specs.declared.header.Header.{Header}
 use Rattle.loader.specs.Linkage.{bodyIn, modelIn, angularMotorIn, linearMotorIn, revoluteIn, prismaticIn, sphericalIn, kindIn, jointIn, bodyOf, jointOf, linkageOf}
 use Rattle.loader.specs.Parts.{bodyFloatsOf, jointFloatsOf, headerOf, bodyPartWords, bodyPartFloats, jointPartWords, jointPartFloats, bodyWordsOf, jointWordsOf, bodyAt, jointAt, linkageIn, Loaded}
@@ -51,21 +50,21 @@ module _ (card : List ℕ) (h : Header) where
   abbrev floats : List Float
   floats = bodyRow bodyFloatsOf ++ jointRow jointFloatsOf
 
-  pub words-length : length (bodyRow bodyWordsOf) ≡ 5 * h .bodies
-  words-length = row-length body bodyWordsOf 5 body-words-sized card 96 (h .bodies)
+  pub words-length : length (bodyRow bodyWordsOf) ≡ 4 * h .bodies
+  words-length = row-length body bodyWordsOf 4 body-words-sized card 96 (h .bodies)
 
   pub floats-length : length (bodyRow bodyFloatsOf) ≡ 10 * h .bodies
   floats-length = row-length body bodyFloatsOf 10 body-floats-sized card 96 (h .bodies)
 
   body-words : (i : ℕ) → i < h .bodies → bodyPartWords words i ≡ bodyWordsOf (numbersAt body card (bodyPlace i))
-  body-words i r = row-at body bodyWordsOf 5 body-words-sized (jointRow jointWordsOf) card 96 (h .bodies) i r
+  body-words i r = row-at body bodyWordsOf 4 body-words-sized (jointRow jointWordsOf) card 96 (h .bodies) i r
 
   body-floats : (i : ℕ) → i < h .bodies → bodyPartFloats floats i ≡ bodyFloatsOf (numbersAt body card (bodyPlace i))
   body-floats i r = row-at body bodyFloatsOf 10 body-floats-sized (jointRow jointFloatsOf) card 96 (h .bodies) i r
 
   joint-words : (j : ℕ) → j < h .joints → jointPartWords h words j ≡ jointWordsOf (numbersAt joint1 card (jointPlace j))
   joint-words j r =
-      row-behind joint1 jointWordsOf 6 joint-words-sized (bodyRow bodyWordsOf) (5 * h .bodies) words-length card joints (h .joints) j r
+      row-behind joint1 jointWordsOf 6 joint-words-sized (bodyRow bodyWordsOf) (4 * h .bodies) words-length card joints (h .joints) j r
 
   joint-floats : (j : ℕ) → j < h .joints → jointPartFloats h floats j ≡ jointFloatsOf (numbersAt joint1 card (jointPlace j))
   joint-floats j r =
@@ -106,7 +105,6 @@ module _ (card : List ℕ) (h : Header) where
               rw (length-append (bodyRow bodyWordsOf) (jointRow jointWordsOf), words-length, row-length joint1 jointWordsOf 6 joint-words-sized card joints (h .joints)) refl;
           floats-length =
               rw (length-append (bodyRow bodyFloatsOf) (jointRow jointFloatsOf), floats-length, row-length joint1 jointFloatsOf 30 joint-floats-sized card joints (h .joints)) refl;
-          dominances = λ i r. rw (body-words i r) (below card (bodyPlace i + 1 + 1 + 1 + 1) 8);
           kinds = λ j r. rw (joint-words j r) (joint-fits card z h e j r .0);
           first = λ j r. rw (joint-words j r) (joint-fits card z h e j r .1);
           second = λ j r. rw (joint-words j r) (joint-fits card z h e j r .2);

@@ -66,11 +66,11 @@ bit (suc zero) h = refl
 bit (suc (suc n)) h = absurd (omega arith)
 
 module _ (bytes : List ℕ) where
-  pub body-words : (l : List ℕ) {b : BodyBits} → length l ≡ 5 → b ≡ bodyBits (numbersAt body bytes 0)
-      → sets l 0 (boolByte (b .anchored) ∷ b .«lock_x» ∷ b .«lock_y» ∷ b .«lock_z» ∷ b .dominance ∷ []) ≡ bodyWordsOf (numbersAt body bytes 0)
+  pub body-words : (l : List ℕ) {b : BodyBits} → length l ≡ 4 → b ≡ bodyBits (numbersAt body bytes 0)
+      → sets l 0 (boolByte (b .anchored) ∷ b .«lock_x» ∷ b .«lock_y» ∷ b .«lock_z» ∷ []) ≡ bodyWordsOf (numbersAt body bytes 0)
   unfolding bodyBits numbersAt
   body-words l {b} n e =
-      filled l (boolByte (b .anchored) ∷ b .«lock_x» ∷ b .«lock_y» ∷ b .«lock_z» ∷ b .dominance ∷ []) n ∙ rw (e, bit _ (below bytes 0 1)) refl
+      filled l (boolByte (b .anchored) ∷ b .«lock_x» ∷ b .«lock_y» ∷ b .«lock_z» ∷ []) n ∙ rw (e, bit _ (below bytes 0 1)) refl
 
   pub body-floats : (l : List Float) {m : ℕ} {first second : List Float} → length l ≡ 10 → first ≡ floatsFrom bytes 30 m → m ≡ 3
       → second ≡ floatsFrom bytes 66 (length (take (length (first ++ drop 3 l) - 3) (drop 3 (first ++ drop 3 l))))
@@ -97,7 +97,7 @@ module _ (bytes : List ℕ) where
   unfolding jointBits numbersAt
   body-numbers e = rw e (below bytes 3 5, below bytes 8 5)
 
-pub body-words-sized : (l : List ℕ) (p : ℕ) → length (bodyWordsOf (numbersAt body l p)) ≡ 5
+pub body-words-sized : (l : List ℕ) (p : ℕ) → length (bodyWordsOf (numbersAt body l p)) ≡ 4
 unfolding numbersAt
 body-words-sized l p = refl
 

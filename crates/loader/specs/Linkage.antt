@@ -3,8 +3,8 @@ use Prim.Native.Nat.{ℕ, _+_}
 use mathlib.Core.Bool.{Bool}
 use mathlib.Core.List.{List, [], _∷_, _++_, map}
 use lib.ListN.{getD, take, drop}
-use lib.Dec.{eqb, ltb}
-use lib.IntN.{ℤ, pos, _-ℤ_}
+use lib.Dec.{eqb}
+use lib.IntN.{pos}
 use lib.Ieee.{Float, binary32, ofInt}
 use Rattle.scalar.specs.Arith.{if_then_else_, _⊘_, f32, f1}
 use Rattle.vector.specs.declared.SymmetricTensor.{SymmetricTensor}
@@ -43,11 +43,7 @@ pub record Linkage : Type 0 where
   pub bodies : List LinkBody
   pub joints : List LinkJoint
 
--- ---- a body. Words: anchored 0, locks 1 to 3, dominance 4. Floats: centre of mass 0, inverse mass 3, inverse inertia 4
-
--- eight bits as a signed number
-unfoldable pub signed : ℕ → ℤ
-signed b = if ltb b 128 then pos b else (pos b -ℤ pos 256)
+-- ---- a body. Words: anchored 0, locks 1 to 3. Floats: centre of mass 0, inverse mass 3, inverse inertia 4
 
 abbrev pub tensorIn : List Float → SymmetricTensor
 tensorIn floats = let x = numberIn floats in record { xx = x 4; xy = x 5; xz = x 6; yy = x 7; yz = x 8; zz = x 9 }
@@ -58,7 +54,6 @@ module _ (words : List ℕ) (floats : List Float) where
       record {
         «inv_mass» = numberIn floats 3;
         «inv_angular_inertia» = tensorIn floats;
-        dominance = signed (at 4 words);
         «translation_x_locked» = flag 1 words;
         «translation_y_locked» = flag 2 words;
         «translation_z_locked» = flag 3 words;

@@ -31,7 +31,7 @@ headerOf c =
 
 -- how many words and floats a body and a joint have
 abbrev pub bodyWords : ℕ
-bodyWords = 5
+bodyWords = 4
 
 abbrev pub bodyFloats : ℕ
 bodyFloats = 10
@@ -123,11 +123,10 @@ module _ (h : Header) (words : List ℕ) (floats : List Float) where
         joints = each jointAt (h .joints);
       }
 
-  -- slices of the counts' length, whose dominances are bytes and whose joints have a kind and tie bodies of the linkage
+  -- slices of the counts' length, whose joints have a kind and tie bodies of the linkage
   pub record Loaded : Type 0 where
     pub words-length : length words ≡ wordsLength h
     pub floats-length : length floats ≡ floatsLength h
-    pub dominances : (i : ℕ) → i < h .bodies → at 4 (bodyPartWords words i) < 256
     pub kinds : (j : ℕ) → j < h .joints → at 0 (jointPartWords h words j) < 5
     pub first : (j : ℕ) → j < h .joints → at 1 (jointPartWords h words j) < h .bodies
     pub second : (j : ℕ) → j < h .joints → at 2 (jointPartWords h words j) < h .bodies

@@ -1,11 +1,10 @@
-// A body of the card, as the solver reads it. Words: anchored 0, locks 1 to 3, dominance 4. Floats: centre of mass 0, inverse mass 3, inverse inertia 4.
+// A body of the card, as the solver reads it. Words: anchored 0, locks 1 to 3. Floats: centre of mass 0, inverse mass 3, inverse inertia 4.
 ghost use mathlib.Core.Path.{_≡_};
 ghost use Prim.Native.Nat.{_<_};
 ghost use lib.ListN.{length};
 ghost use lib.Ieee.{Float};
 ghost use mathlib.Core.List.{List};
-ghost use Rattle.card.specs.Card.{at};
-ghost use Rattle.loader.specs.Linkage.{signed, tensorIn, movingInertiaIn, bodyIn};
+ghost use Rattle.loader.specs.Linkage.{tensorIn, movingInertiaIn, bodyIn};
 ghost use Rattle.loader.specs.Parts.{bodyWords, bodyFloats, wordsLength, bodyAt, Loaded};
 use crate::header::Header;
 use numbers::vec3_in;
@@ -20,20 +19,9 @@ pub struct LinkBody {
     pub center_of_mass: Vec3,
 }
 
-pub const BODY_WORDS: usize = 5;
+pub const BODY_WORDS: usize = 4;
 
 pub const BODY_FLOATS: usize = 10;
-
-// Eight bits as a signed number.
-fn signed(b: u32) -> i16
-    requires { ⌜ b < 256 ⌝ }
-    ensures { λ r. ⌜ r ≡ signed b ⌝ }
-{
-    if b < 128 {
-        return b as i16;
-    }
-    b as i16 - 256
-}
 
 fn tensor_in(floats: &[f32]) -> SymmetricTensor
     requires { ⌜ length (now floats) ≡ bodyFloats ⌝ }
@@ -50,13 +38,12 @@ fn tensor_in(floats: &[f32]) -> SymmetricTensor
 }
 
 fn moving_inertia_in(words: &[u32], floats: &[f32]) -> SolverBodyInertia
-    requires { ⌜ (length (now words) ≡ bodyWords) × (length (now floats) ≡ bodyFloats) × (at 4 (now words) < 256) ⌝ }
+    requires { ⌜ (length (now words) ≡ bodyWords) × (length (now floats) ≡ bodyFloats) ⌝ }
     ensures { λ r. ⌜ r ≡ movingInertiaIn (now (words .entry)) (now (floats .entry)) ⌝ }
 {
     SolverBodyInertia {
         inv_mass: floats[3],
         inv_angular_inertia: tensor_in(floats),
-        dominance: signed(words[4]),
         translation_x_locked: words[1] == 1,
         translation_y_locked: words[2] == 1,
         translation_z_locked: words[3] == 1,
@@ -64,7 +51,7 @@ fn moving_inertia_in(words: &[u32], floats: &[f32]) -> SolverBodyInertia
 }
 
 fn inertia_in(words: &[u32], floats: &[f32]) -> SolverBodyInertia
-    requires { ⌜ (length (now words) ≡ bodyWords) × (length (now floats) ≡ bodyFloats) × (at 4 (now words) < 256) ⌝ }
+    requires { ⌜ (length (now words) ≡ bodyWords) × (length (now floats) ≡ bodyFloats) ⌝ }
     ensures { λ r. ⌜ r ≡ bodyIn (now (words .entry)) (now (floats .entry)) .inertia ⌝ }
 {
     if words[0] == 1 {
@@ -74,7 +61,7 @@ fn inertia_in(words: &[u32], floats: &[f32]) -> SolverBodyInertia
 }
 
 fn body_in(words: &[u32], floats: &[f32]) -> LinkBody
-    requires { ⌜ (length (now words) ≡ bodyWords) × (length (now floats) ≡ bodyFloats) × (at 4 (now words) < 256) ⌝ }
+    requires { ⌜ (length (now words) ≡ bodyWords) × (length (now floats) ≡ bodyFloats) ⌝ }
     ensures { λ r. ⌜ r ≡ bodyIn (now (words .entry)) (now (floats .entry)) ⌝ }
 {
     LinkBody {

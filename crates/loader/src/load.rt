@@ -47,7 +47,6 @@ fn load_body(part: &[u8], words: &mut [u32], floats: &mut [f32])
     words[1] = b.lock_x;
     words[2] = b.lock_y;
     words[3] = b.lock_z;
-    words[4] = b.dominance;
     load_floats(part, CENTER_OF_MASS, &mut floats[..3]);
     load_floats(part, INV_MASS, &mut floats[3..]);
 }

@@ -4,6 +4,7 @@ use Rattle.series.proofs.Nearest.{nearest}
 use Rattle.series.proofs.Interpolation.{interpolation}
 use Rattle.trig.proofs.Accuracy.{accurate}
 use Rattle.tick.proofs.Examples as line
+use Rattle.tick.proofs.Dominance.{dominance-gone}
 use Rattle.examples.proofs.Examples as marked
 use Rattle.demand.proofs.Demand.{demand-three}
 use Rattle.demand.proofs.Sample.{sample-holds}
@@ -20,4 +21,5 @@ promises =
       sample = sample-holds;
       examples = marked.examples;
       line = line.examples;
+      point-5 = dominance-gone;
     }

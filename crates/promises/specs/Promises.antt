@@ -7,6 +7,7 @@ use Rattle.series.specs.Nearest.{Nearest}
 use Rattle.series.specs.Interpolation.{Interpolation}
 use Rattle.trig.specs.Accuracy.{Accurate}
 use Rattle.tick.specs.Examples as line
+use Rattle.tick.specs.Dominance.{DominanceGone}
 use Rattle.examples.specs.Examples as marked
 use Rattle.demand.specs.Demand.{DemandThree}
 use Rattle.demand.specs.Sample.{Sample}
@@ -21,3 +22,5 @@ pub record Promises : Type 0 where
   -- document 01's lines marked P, and its example line
   pub examples : marked.Examples
   pub line : line.Examples
+  -- document 02, by its points
+  pub point-5 : DominanceGone

@@ -1,7 +1,6 @@
 -- A body's inverse mass under its locks, and the dummy that stands for an anchored body (src/dynamics/solver/solver_body/mod.rs). Definitions only.
 use mathlib.Core.Bool.{Bool, false}
 use lib.Ieee.{Float}
-use lib.IntN.{pos}
 use Rattle.scalar.specs.Arith.{if_then_else_, f32, f0}
 use Rattle.vector.specs.Vector.{origin}
 use Rattle.vector.specs.Rotation.{identity}
@@ -35,13 +34,12 @@ abbrev pub dummyBody : SolverBody
 dummyBody =
     record { «linear_velocity» = origin; «angular_velocity» = origin; «delta_position» = origin; «delta_rotation» = identity }
 
--- nothing moves it, and its dominance is above every i8
+-- nothing moves it
 abbrev pub dummyInertia : SolverBodyInertia
 dummyInertia =
     record {
       «inv_mass» = f0;
       «inv_angular_inertia» = zeroTensor;
-      dominance = pos 128;
       «translation_x_locked» = false;
       «translation_y_locked» = false;
       «translation_z_locked» = false;

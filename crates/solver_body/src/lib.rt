@@ -77,7 +77,6 @@ pub struct SolverBodyInertia {
     pub inv_mass: f32,
     // In world axes.
     pub inv_angular_inertia: SymmetricTensor,
-    pub dominance: i16,
     pub translation_x_locked: bool,
     pub translation_y_locked: bool,
     pub translation_z_locked: bool,
@@ -91,11 +90,10 @@ pub fn unlocked(locked: bool, value: f32) -> f32
 }
 
 impl SolverBodyInertia {
-    // An anchored body: nothing moves it, and its dominance is above every i8.
+    // An anchored body: nothing moves it.
     pub const DUMMY: SolverBodyInertia = SolverBodyInertia {
         inv_mass: 0.0,
         inv_angular_inertia: SymmetricTensor::ZERO,
-        dominance: 128,
         translation_x_locked: false,
         translation_y_locked: false,
         translation_z_locked: false,

@@ -6,4 +6,5 @@ pub mod Turns
 pub mod Solving
 pub mod Ends
 pub mod Ticking
+pub mod Dominance
 pub mod Examples

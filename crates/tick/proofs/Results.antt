@@ -24,13 +24,13 @@ use Rattle.numbers.specs.Lists.{all}
 use Rattle.numbers.specs.Numbers.{numbers3, numbers4}
 use Rattle.state.specs.State.{totalsNumbers}
 use Rattle.tick.specs.Joint.{armNumbers, preparedNumbers, solverNumbers}
-use Rattle.tick.specs.Parts.{pointNumbers, fourNumbers, runWith, solvedWith, preparedWith, testedOf}
+use Rattle.tick.specs.Parts.{pointNumbers, fourNumbers, runWith, jointSolved, preparedWith, testedOf}
 use Rattle.tick.proofs.All.{both, three, four}
 
 module _ (b₁ b₂ : RigidBody) (b : BodyPair) (i₁ i₂ : SolverBodyInertia) (h : Float) where
   -- the tests in two steps
-  pub tested-is : (j : Joint) → solvedWith j b₁ b₂ b i₁ i₂ h ≡ testedOf (preparedWith j b₁ b₂ b i₁ i₂ h)
-  unfolding testedOf preparedWith solvedWith
+  pub tested-is : (j : Joint) → jointSolved j b₁ b₂ b i₁ i₂ h ≡ testedOf (preparedWith j b₁ b₂ b i₁ i₂ h)
+  unfolding testedOf preparedWith jointSolved
   tested-is j =
       let r = runWith j b₁ b₂ b i₁ i₂ h in
       λ z. record {

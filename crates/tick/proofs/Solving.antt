@@ -13,7 +13,7 @@ use Rattle.solver_body.specs.declared.SolverBody.{SolverBody}
 use Rattle.solver_body.specs.declared.SolverBodyInertia.{SolverBodyInertia}
 use Rattle.solver_body.specs.declared.BodyPair.{BodyPair}
 use Rattle.xpbd_joints.specs.declared.JointTotals.{JointTotals}
-use Rattle.tick.specs.Parts.{solvedWith, warmedWith, jointWarmed, jointSolved}
+use Rattle.tick.specs.Parts.{jointWarmed, jointSolved}
 use Rattle.tick.specs.declared.joint.JointResult.{JointResult}
 use Rattle.numbers.specs.Lists.{after}
 use Rattle.numbers.proofs.Loops.{after-turn, after-back}
@@ -37,11 +37,11 @@ module _ (K : Linkage) (s : List Float) (j : ℕ) (h : Header) (w : List Float) 
 
   pub warm-is : {last : JointTotals} → last ≡ totalsAt (length (K .bodies)) s j → {c : Float} → c ≡ K .«warm_coefficient» → {p : BodyPair}
       → p ≡ jointWarmed J r₁ r₂ last both i₁ i₂ c dt → p ≡ warmedBy K s j (bodiesIn h w)
-  unfolding jointWarmed warmedWith steps
+  unfolding jointWarmed steps
   warm-is el ec e = e ∙ rw (both-is, ej, er₁, er₂, ei₁, ei₂, el, ec, ed, e₁, e₂)
 
   pub solve-is : {r : JointResult} → r ≡ jointSolved J r₁ r₂ both i₁ i₂ dt → (σ : Solved) → σ .bodies ≡ bodiesIn h w → r ≡ resultAt K s j (solvedBy K s true j σ)
-  unfolding jointSolved solvedWith steps
+  unfolding jointSolved steps
   solve-is e σ eσ = e ∙ rw (both-is, ej, er₁, er₂, ei₁, ei₂, ed, e₁, e₂, eσ)
 
 -- ---- a solve that stops

@@ -1,32 +1,18 @@
--- A joint in a tick: the inertias that it gets by dominance, which is the Rust's own, and the numbers that refusal 13 looks at after its solve. Definitions only.
+-- The numbers that refusal 13 looks at after a joint's solve. Definitions only.
 use mathlib.Core.List.{List, _++_}
 use lib.Ieee.{Float}
-use lib.Signed.{ltZ}
-use Rattle.scalar.specs.Arith.{if_then_else_}
 use Rattle.vector.specs.Vector.{anyOrthonormal}
 use Rattle.vector.specs.declared.Vec3.{Vec3}
 use Rattle.joints.specs.declared.JointFrame.{JointFrame}
 use Rattle.joints.specs.declared.Joint.{Joint}
 use Rattle.joints.specs.declared.Joint.the-variants.{Fixed, Revolute, Prismatic, Spherical, Distance}
-use Rattle.solver_body.specs.Body.{dummyInertia}
 use Rattle.solver_body.specs.declared.RigidBody.{RigidBody}
 use Rattle.solver_body.specs.declared.SolverBody.{SolverBody}
-use Rattle.solver_body.specs.declared.SolverBodyInertia.{SolverBodyInertia}
 use Rattle.xpbd.specs.Positional.{anchorArm, centerDifference}
 use Rattle.xpbd_joints.specs.Prepared.{offset, axisIn, matrixArm, matrixAxis}
 use Rattle.xpbd_joints.specs.Steps.{Run}
 use Rattle.numbers.specs.Numbers.{numbers3, numbers4}
 use Rattle.state.specs.State.{totalsNumbers}
-use Rattle.tick.specs.declared.joint.InertiaPair.{InertiaPair}
-
--- a body of higher dominance counts as fixed
-unfoldable pub dominatedOf : SolverBodyInertia → SolverBodyInertia → InertiaPair
-dominatedOf i₁ i₂ =
-    if ltZ (i₂ .dominance) (i₁ .dominance) then record { inertia1 = dummyInertia; inertia2 = i₂ }
-    else if ltZ (i₁ .dominance) (i₂ .dominance) then record { inertia1 = i₁; inertia2 = dummyInertia }
-    else record { inertia1 = i₁; inertia2 = i₂ }
-
--- ---- refusal 13
 
 -- two arms and the difference of the centres
 abbrev pub armNumbers : Vec3 → Vec3 → Vec3 → List Float

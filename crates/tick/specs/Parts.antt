@@ -21,7 +21,7 @@ use Rattle.xpbd_joints.specs.declared.JointTotals.{JointTotals}
 use Rattle.numbers.specs.Lists.{all}
 use Rattle.state.specs.State.{totalsNumbers}
 use Rattle.tick.specs.Body.{angularChange}
-use Rattle.tick.specs.Joint.{dominatedOf, armNumbers, preparedNumbers, solverNumbers, lookedAt}
+use Rattle.tick.specs.Joint.{armNumbers, preparedNumbers, solverNumbers, lookedAt}
 use Rattle.tick.specs.declared.joint.JointResult.{JointResult}
 
 -- ---- a body
@@ -66,8 +66,8 @@ resultOf j b₁ b₂ r = record { finite = all isFinite (lookedAt j b₁ b₂ r)
 abbrev pub runWith : Joint → RigidBody → RigidBody → BodyPair → SolverBodyInertia → SolverBodyInertia → Float → Run
 runWith j b₁ b₂ b i₁ i₂ h = run (settingOf i₁ i₂ h) (stepsOf j b₁ b₂) (record { bodies = b; totals = noTotals })
 
-unfoldable pub solvedWith : Joint → RigidBody → RigidBody → BodyPair → SolverBodyInertia → SolverBodyInertia → Float → JointResult
-solvedWith j b₁ b₂ b i₁ i₂ h = resultOf j b₁ b₂ (runWith j b₁ b₂ b i₁ i₂ h)
+unfoldable pub jointSolved : Joint → RigidBody → RigidBody → BodyPair → SolverBodyInertia → SolverBodyInertia → Float → JointResult
+jointSolved j b₁ b₂ b i₁ i₂ h = resultOf j b₁ b₂ (runWith j b₁ b₂ b i₁ i₂ h)
 
 -- the same in two steps, the first by kind: only what was prepared is tested
 unfoldable pub preparedWith : Joint → RigidBody → RigidBody → BodyPair → SolverBodyInertia → SolverBodyInertia → Float → JointResult
@@ -84,12 +84,5 @@ testedOf r =
     }
 
 -- its warm start, with the coefficient c
-unfoldable pub warmedWith : Joint → RigidBody → RigidBody → JointTotals → BodyPair → SolverBodyInertia → SolverBodyInertia → Float → Float → BodyPair
-warmedWith j b₁ b₂ last b i₁ i₂ c h = warmed (settingOf i₁ i₂ h) c last (stepsOf j b₁ b₂) b
-
--- both with the inertias that the joint gets by dominance
 unfoldable pub jointWarmed : Joint → RigidBody → RigidBody → JointTotals → BodyPair → SolverBodyInertia → SolverBodyInertia → Float → Float → BodyPair
-jointWarmed j b₁ b₂ last b i₁ i₂ c h = let i = dominatedOf i₁ i₂ in warmedWith j b₁ b₂ last b (i .inertia1) (i .inertia2) c h
-
-unfoldable pub jointSolved : Joint → RigidBody → RigidBody → BodyPair → SolverBodyInertia → SolverBodyInertia → Float → JointResult
-jointSolved j b₁ b₂ b i₁ i₂ h = let i = dominatedOf i₁ i₂ in solvedWith j b₁ b₂ b (i .inertia1) (i .inertia2) h
+jointWarmed j b₁ b₂ last b i₁ i₂ c h = warmed (settingOf i₁ i₂ h) c last (stepsOf j b₁ b₂) b

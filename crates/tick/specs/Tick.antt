@@ -19,7 +19,7 @@ use Rattle.loader.specs.Linkage.{LinkJoint, Linkage, bodyOf, jointOf}
 use Rattle.loader.specs.declared.body.LinkBody.{LinkBody}
 use Rattle.state.specs.State.{bodyAt, totalsAt, stateOf, badNumbers}
 use Rattle.tick.specs.Body.{integrated, finishedBody}
-use Rattle.tick.specs.Joint.{dominatedOf, lookedAt}
+use Rattle.tick.specs.Joint.{lookedAt}
 
 -- the solver's bodies and the joints' totals after the joints so far, and whether all numbers looked at were finite
 pub record Solved : Type 0 where
@@ -59,8 +59,7 @@ module _ (K : Linkage) where
 
   abbrev pub setting : Bool → ℕ → Setting
   setting motors j =
-      let i = dominatedOf (body (joint j .body1) .inertia) (body (joint j .body2) .inertia) in
-      record { dt = K .dt; motors = motors; inertia1 = i .inertia1; inertia2 = i .inertia2 }
+      record { dt = K .dt; motors = motors; inertia1 = body (joint j .body1) .inertia; inertia2 = body (joint j .body2) .inertia }
 
 module _ (K : Linkage) (s : List Float) where
   -- the pose is the state's, an anchored body's too

@@ -1,12 +1,11 @@
-// A joint in a tick: the inertias that it gets by dominance, its warm start and its solve by kind (src/dynamics/solver/xpbd/plugin.rs), and whether all numbers are finite.
+// A joint in a tick: its warm start and its solve by kind (src/dynamics/solver/xpbd/plugin.rs), and whether all numbers are finite.
 ghost use mathlib.Core.Path.{_≡_};
-ghost use lib.Signed.{ltZ};
 ghost use Rattle.scalar.specs.Scalar.{isFinite};
 ghost use Rattle.joints.specs.declared.Joint.the-variants as kind;
 ghost use Rattle.numbers.specs.Lists.{all};
 ghost use Rattle.state.specs.State.{totalsNumbers};
-ghost use Rattle.tick.specs.Joint.{dominatedOf, armNumbers};
-ghost use Rattle.tick.specs.Parts.{pointNumbers, fourNumbers, preparedWith, testedOf, warmedWith, jointWarmed, jointSolved};
+ghost use Rattle.tick.specs.Joint.{armNumbers};
+ghost use Rattle.tick.specs.Parts.{pointNumbers, fourNumbers, preparedWith, testedOf, jointWarmed, jointSolved};
 use crate::finite::body_finite;
 use crate::finite::quat_finite;
 use crate::finite::vec3_finite;
@@ -27,35 +26,6 @@ use xpbd_joints::fixed;
 use xpbd_joints::prismatic;
 use xpbd_joints::revolute;
 use xpbd_joints::spherical;
-
-pub struct InertiaPair {
-    pub inertia1: SolverBodyInertia,
-    pub inertia2: SolverBodyInertia,
-}
-
-fn above(a: i16, b: i16) -> bool
-    ensures { λ r. ⌜ r ≡ ltZ b a ⌝ }
-{
-    a > b
-}
-
-pub fn dominated(inertia1: SolverBodyInertia, inertia2: SolverBodyInertia) -> InertiaPair
-    ensures { λ r. ⌜ r ≡ dominatedOf inertia1 inertia2 ⌝ }
-{
-    if above(inertia1.dominance, inertia2.dominance) {
-        return InertiaPair {
-            inertia1: SolverBodyInertia::DUMMY,
-            inertia2,
-        };
-    }
-    if above(inertia2.dominance, inertia1.dominance) {
-        return InertiaPair {
-            inertia1,
-            inertia2: SolverBodyInertia::DUMMY,
-        };
-    }
-    InertiaPair { inertia1, inertia2 }
-}
 
 fn arms_finite(world_r1: Vec3, world_r2: Vec3, center_difference: Vec3) -> bool
     ensures { λ r. ⌜ r ≡ all isFinite (armNumbers «world_r1» «world_r2» «center_difference») ⌝ }
@@ -329,7 +299,8 @@ fn tested(solved: JointResult) -> JointResult
     }
 }
 
-fn warm_start_by_kind(
+// The totals are those of the last tick.
+pub fn warm_start_joint(
     joint: Joint,
     body1: RigidBody,
     body2: RigidBody,
@@ -340,7 +311,7 @@ fn warm_start_by_kind(
     warm_start_coefficient: f32,
     dt: f32,
 ) -> BodyPair
-    ensures { λ r. ⌜ r ≡ warmedWith joint body1 body2 last bodies inertia1 inertia2 «warm_start_coefficient» dt ⌝ }
+    ensures { λ r. ⌜ r ≡ jointWarmed joint body1 body2 last bodies inertia1 inertia2 «warm_start_coefficient» dt ⌝ }
 {
     match joint {
         Joint::Fixed(_) => bodies,
@@ -367,34 +338,6 @@ fn warm_start_by_kind(
     }
 }
 
-// The totals are those of the last tick.
-pub fn warm_start_joint(
-    joint: Joint,
-    body1: RigidBody,
-    body2: RigidBody,
-    last: JointTotals,
-    bodies: BodyPair,
-    inertia1: SolverBodyInertia,
-    inertia2: SolverBodyInertia,
-    warm_start_coefficient: f32,
-    dt: f32,
-) -> BodyPair
-    ensures { λ r. ⌜ r ≡ jointWarmed joint body1 body2 last bodies inertia1 inertia2 «warm_start_coefficient» dt ⌝ }
-{
-    let i = dominated(inertia1, inertia2);
-    warm_start_by_kind(
-        joint,
-        body1,
-        body2,
-        last,
-        bodies,
-        i.inertia1,
-        i.inertia2,
-        warm_start_coefficient,
-        dt,
-    )
-}
-
 pub fn solve_joint(
     joint: Joint,
     body1: RigidBody,
@@ -406,6 +349,5 @@ pub fn solve_joint(
 ) -> JointResult
     ensures { λ r. ⌜ r ≡ jointSolved joint body1 body2 bodies inertia1 inertia2 dt ⌝ }
 {
-    let i = dominated(inertia1, inertia2);
-    tested(solve_by_kind(joint, body1, body2, bodies, i.inertia1, i.inertia2, dt))
+    tested(solve_by_kind(joint, body1, body2, bodies, inertia1, inertia2, dt))
 }

@@ -2,7 +2,7 @@
 //! ticks are as many as there can be, and cards that reach each refusal that can come from a program. It fails at the first input with other lines, which it
 //! writes to target/differences, and where a class of inputs that it looks for never came up.
 
-use oracle::card::{Body, Card, Joint, BALL};
+use oracle::card::{self, Body, Card, Joint, BALL};
 use oracle::compare::Hits;
 use oracle::generate::{self, Random};
 use std::fs::{self, File};
@@ -96,7 +96,7 @@ fn refusal(lines: &str) -> u32 {
 
 fn count_classes(input: &[u8], lines: &str, hits: &mut Hits) {
     let number = refusal(lines);
-    for refused in (1..=10).chain([13]) {
+    for refused in card::REFUSALS.into_iter().chain([13]) {
         hits.look(format!("refused {refused}"), number == refused);
     }
     hits.look(

@@ -1,6 +1,6 @@
 //! Single operations and single joints: the oracle's answer to a list of numbers, and inputs for it.
 //!
-//! A leaf's input and output are lists of f32 in the order that the Rattle's crate `host_parts` gives. Whole numbers (a model, locks, dominances) come
+//! A leaf's input and output are lists of f32 in the order that the Rattle's crate `host_parts` gives. Whole numbers (a model, locks) come
 //! first and as f32s.
 
 use super::{all_same, in_hex, number_bytes, shrink, Difference, Hits};
@@ -72,12 +72,12 @@ fn motion(x: &[f32], at: usize) -> Motion {
     }
 }
 
-fn inertia(x: &[f32], at: usize, locks: f32, dominance: f32) -> Inertia {
+fn inertia(x: &[f32], at: usize, locks: f32) -> Inertia {
     let locks = locks as i32;
     Inertia {
         inv_mass: x[at],
         inv_inertia: v6(x, at + 1),
-        dominance: dominance as i16,
+        dominance: 0,
         locks: [locks & 4 != 0, locks & 2 != 0, locks & 1 != 0],
     }
 }
@@ -692,7 +692,7 @@ fn weights() -> Leaf {
         },
         in_domain: |x| x[1] >= 0.0,
         oracle: |x| {
-            let body = inertia(x, 1, x[0], 0.0);
+            let body = inertia(x, 1, x[0]);
             let (r, n) = (v3(x, 8), v3(x, 11));
             let largest = math::max_element(parts::effective_inv_mass(&body));
             let mut y = vec![
@@ -735,8 +735,8 @@ fn positional_impulse() -> Leaf {
             parts::apply_positional_impulse(
                 &mut body1,
                 &mut body2,
-                &inertia(x, 28, x[0], 0.0),
-                &inertia(x, 35, x[1], 0.0),
+                &inertia(x, 28, x[0]),
+                &inertia(x, 35, x[1]),
                 v3(x, 42),
                 v3(x, 45),
                 v3(x, 48),
@@ -838,8 +838,8 @@ fn point_constraint() -> Leaf {
             point.solve(
                 &mut body1,
                 &mut body2,
-                &inertia(x, 54, x[0], 0.0),
-                &inertia(x, 61, x[1], 0.0),
+                &inertia(x, 54, x[0]),
+                &inertia(x, 61, x[1]),
                 x[68],
                 x[69],
             );
@@ -910,35 +910,6 @@ fn inertia_numbers(inertia: &Inertia) -> Vec<f32> {
     [&[inertia.inv_mass][..], &inertia.inv_inertia, &locks].concat()
 }
 
-fn dominance() -> Leaf {
-    Leaf {
-        name: "dominance",
-        parts: &[("first", 10), ("second", 10)],
-        generate: |random| {
-            let mut x = vec![locks(random), locks(random)];
-            x.push(random.dominance() as f32);
-            x.push(random.dominance() as f32);
-            for _ in 0..2 {
-                x.push(random.inv_mass());
-                x.extend(random.inv_inertia());
-            }
-            x
-        },
-        in_domain: |x| x[2].abs() <= 128.0 && x[3].abs() <= 128.0,
-        oracle: |x| {
-            let (first, second) =
-                solver::choose(&inertia(x, 4, x[0], x[2]), &inertia(x, 11, x[1], x[3]));
-            [inertia_numbers(&first), inertia_numbers(&second)].concat()
-        },
-        classes: |x, _, hits| {
-            hits.look("first dominant", x[2] > x[3]);
-            hits.look("second dominant", x[2] < x[3]);
-            hits.look("neither dominant", x[2] == x[3]);
-        },
-        ..LEAF
-    }
-}
-
 fn projection() -> Leaf {
     Leaf {
         name: "projection",
@@ -966,12 +937,10 @@ fn projection() -> Leaf {
 fn dummies() -> Leaf {
     Leaf {
         name: "dummies",
-        parts: &[("body", 13), ("inertia", 10), ("dominance", 1)],
+        parts: &[("body", 13), ("inertia", 10)],
         oracle: |_| {
-            let inertia = Inertia::dummy();
             let mut y = motion_numbers(&Motion::DUMMY);
-            y.extend(inertia_numbers(&inertia));
-            y.push(inertia.dominance as f32);
+            y.extend(inertia_numbers(&Inertia::dummy()));
             y
         },
         ..LEAF
@@ -1218,10 +1187,6 @@ fn joint_classes(x: &[f32], y: &[f32], hits: &mut Hits) {
             !at_rest && more,
         );
     }
-    if matches!(joint.kind, HINGE | SLIDE) {
-        let dominant = case.inertia1.dominance != case.inertia2.dominance;
-        hits.look("dominance decides", case.anchored == 0 && dominant);
-    }
 }
 
 fn joints() -> Leaf {
@@ -1266,7 +1231,6 @@ pub fn leaves() -> Vec<Leaf> {
         align_orientation(),
         point_constraint(),
         fixed_angle_constraint(),
-        dominance(),
         projection(),
         dummies(),
     ]

@@ -47,7 +47,7 @@ fn refused(random: &mut Random, card: &Card) -> Vec<u8> {
             }
             _ => card.encode(),
         };
-        let number = 1 + random.below(10) as u32;
+        let number = random.pick(&card::REFUSALS);
         generate::damage(random, &mut bytes, number);
         if card::check(&bytes).is_err() {
             return bytes;
@@ -186,7 +186,7 @@ impl Tables {
 }
 
 fn note_refusal(number: u32, state: &[f32], hits: &mut Hits) {
-    for refusal in 1..=13 {
+    for refusal in card::REFUSALS.into_iter().chain(11..=13) {
         hits.look(format!("list: refused {refusal}"), refusal == number);
     }
     let nan = state.iter().any(|x| x.is_nan());
@@ -223,7 +223,9 @@ mod tests {
             },
             ..ORACLE
         });
-        assert!(text.contains("oracle: 12, rattle: 12"), "{text}");
+        let refused = |n: &u32| text.contains(&format!("oracle: {n}, rattle: {n}\n"));
+        assert!((1..=17).any(|n| refused(&n)), "{text}");
+        assert!(text.contains("(NaN)"), "{text}");
         // Remembers a refused card: no call by itself is wrong.
         let text = found(Table {
             check: |card| {

@@ -1,7 +1,7 @@
 //! Cards, runs and states: both tables' check, sizes, start, tick and run on the same bytes and numbers.
 
 use super::{in_hex, number_bytes, shrink, Difference, Hits, Table};
-use crate::card::{self, Card, BODY_NUMBERS, JOINT_NUMBERS, KINDS};
+use crate::card::{self, Card, BODY_NUMBERS, CAPACITY, JOINT_NUMBERS, KINDS};
 use crate::generate::{self, Random};
 use crate::table::{self, Ran};
 
@@ -156,7 +156,7 @@ impl Tables {
     fn card(&self, bytes: &[u8], hits: &mut Hits) -> Result<u32, Box<Difference>> {
         let number = self.both(Call::Check, bytes, &[])?.number;
         let sizes = self.both(Call::Sizes, bytes, &[])?;
-        for refusal in 0..=10 {
+        for refusal in [0].into_iter().chain(card::REFUSALS) {
             hits.look(format!("check answers {refusal}"), refusal == number);
             hits.look(format!("sizes answers {refusal}"), refusal == sizes.number);
         }
@@ -198,14 +198,27 @@ impl Tables {
             self.card(&bytes, hits)?;
             compared += 1;
         }
+        for (body, bit) in (0..CAPACITY).flat_map(|body| (0..8).map(move |bit| (body, bit))) {
+            for anchored in [false, true] {
+                let number = self.card(&generate::dominant(body, bit, anchored), hits)?;
+                let (body, expected) = if anchored {
+                    ("an anchored", 6)
+                } else {
+                    ("a moving", 17)
+                };
+                let class = format!("{expected} for bit {bit} of {body} body's dominance");
+                hits.look(class, number == expected);
+                compared += 1;
+            }
+        }
         for length in 0..=LONGEST {
             let bytes = generate::random_bytes(&mut Random::of_case(seed, length as u64), length);
             self.card(&bytes, hits)?;
             compared += 1;
         }
         // Two refusals apply: the second alone first, and then with the first, which wins.
-        for first in 1..=10 {
-            for second in first + 1..=10 {
+        for (i, first) in card::REFUSALS.into_iter().enumerate() {
+            for second in card::REFUSALS.into_iter().skip(i + 1) {
                 for case in 0..30 {
                     let random = &mut Random::of_case(seed + (100 * first + second) as u64, case);
                     let mut bytes = generate::card(random).encode();
@@ -340,11 +353,11 @@ impl Tables {
             let state = generate::state(random, &card);
             let mut bytes = card.encode();
             if random.one_in(50) {
-                let number = 1 + random.below(10) as u32;
+                let number = random.pick(&card::REFUSALS);
                 generate::damage(random, &mut bytes, number);
             }
             let tick = self.tick(&card, &bytes, &state, hits)?;
-            hits.look("state: a card is refused", (1..=10).contains(&tick));
+            hits.look("state: a card is refused", card::REFUSALS.contains(&tick));
             let none = self.both(Call::Run(0), &bytes, &state)?.number;
             for refusal in [0, 12, 13] {
                 let class = format!("state: run of none answers 0, a tick {refusal}");
@@ -353,7 +366,7 @@ impl Tables {
             hits.look("state: run of none answers 11", none == 11);
             hits.look(
                 "state: run of none, a card is refused",
-                none == tick && (1..=10).contains(&none),
+                none == tick && card::REFUSALS.contains(&none),
             );
             let ticks = 1 + random.below(4) as u32;
             let run = self.both(Call::Run(ticks), &bytes, &state)?;
@@ -428,13 +441,6 @@ fn note_state(card: &Card, state: &[f32], hits: &mut Hits) {
     hits.look(
         "tick with an anchored body",
         card.bodies.iter().any(|body| body.anchored),
-    );
-    hits.look(
-        "tick with a dominant body",
-        card.joints.iter().any(|joint| {
-            let [body1, body2] = [joint.body1, joint.body2].map(|i| &card.bodies[i as usize]);
-            !body1.anchored && !body2.anchored && body1.dominance != body2.dominance
-        }),
     );
 }
 

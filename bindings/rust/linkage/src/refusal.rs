@@ -1,4 +1,4 @@
-//! Document 01's refusals, by number and in words.
+//! The refusals, by number and in words.
 
 use core::error::Error;
 use core::fmt;
@@ -20,6 +20,7 @@ pub enum Refusal {
     StateLength,
     StateNumber,
     Stopped,
+    Dominance,
     /// One that this version does not know.
     Unknown(u32),
 }
@@ -42,6 +43,7 @@ impl Refusal {
             11 => Refusal::StateLength,
             12 => Refusal::StateNumber,
             13 => Refusal::Stopped,
+            17 => Refusal::Dominance,
             _ => Refusal::Unknown(number),
         })
     }
@@ -61,6 +63,7 @@ impl Refusal {
             Refusal::StateLength => 11,
             Refusal::StateNumber => 12,
             Refusal::Stopped => 13,
+            Refusal::Dominance => 17,
             Refusal::Unknown(number) => number,
         }
     }
@@ -80,6 +83,7 @@ impl Refusal {
             Refusal::StateLength => "the state is not as long as the card's bodies and joints ask for",
             Refusal::StateNumber => "a number of the state is not finite, or a body is too far out",
             Refusal::Stopped => "the tick would leave a number that is not finite, or a body too far out",
+            Refusal::Dominance => "a body of the card has a dominance, which is no longer known: an anchored body is to take its place",
             Refusal::Unknown(_) => "an answer that this version does not know",
         }
     }

@@ -12,7 +12,7 @@ returns c =
     let c4 = c3 .before in
     let c5 = c4 .before in
     simp (
-      c5 .before .before .before .before .before .before .before .before .body-bits .ensures,
+      c5 .before .before .before .before .before .before .before .before .before .body-bits .ensures,
       c5 .field .ensures,
       c4 .field2 .ensures,
       c3 .field3 .ensures,
@@ -26,4 +26,5 @@ pub body-faults-spec : {M : Type 1} → statement M
 body-faults-spec =
     tie.close
     (tie.spec
-    (λ c κs. search needs) (λ c κs. search needs) (λ c κs. search needs) (λ c κs. search needs) (λ c κs. omega (arith, c .before .before .before .before .before .before .before .before .before .before .before .before .pre)) (λ c κs. omega (arith, c .before .before .before .before .before .before .before .before .before .before .before .before .before .pre)) (λ c κs. search needs) returns)
+    (λ c κs. search needs) (λ c κs. search needs) (λ c κs. search needs) (λ c κs. omega (arith, c .before .before .before .before .before .before .before .before .before .before .before .before .pre))
+    (λ c κs. omega (arith, c .before .before .before .before .before .before .before .before .before .before .before .before .before .pre)) (λ c κs. omega (arith, c .before .before .before .before .before .before .before .before .before .before .before .before .before .before .pre)) (λ c κs. search needs) returns)

@@ -11,7 +11,7 @@ use Rattle.loader.proofs.body.anchored_at.Tie as tie
 
 returns : tie.Need-returns
 unfolding bodyAt bodyIn
-returns c = λ f. ap (λ a. eqb a 1) (place _ (5 * c .before .args .i) 5 0 _ 0 (omega arith) (omega arith))
+returns c = λ f. ap (λ a. eqb a 1) (place _ (4 * c .before .args .i) 4 0 _ 0 (omega arith) (omega arith))
 
 pub anchored-at-spec : {M : Type 1} → statement M
 anchored-at-spec =

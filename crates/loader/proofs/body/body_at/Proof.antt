@@ -12,15 +12,14 @@ body-in-requires c κs =
     let words = start .args .words .now in
     let floats = start .args .floats .now in
     let i = start .args .i in
-    rw (cut words (5 * i) 5, cut floats (10 * i) 10) (
-      part-length words (5 * i) 5 (omega (arith, start .pre .0 .words-length)),
+    rw (cut words (4 * i) 4, cut floats (10 * i) 10) (
+      part-length words (4 * i) 4 (omega (arith, start .pre .0 .words-length)),
       part-length floats (10 * i) 10 (omega (arith, start .pre .0 .floats-length)),
-      start .pre .0 .dominances i (start .pre .1),
     )
 
 returns : tie.Need-returns
 unfolding bodyAt
-returns c = let start = c .before .before .before .before .before in cc (cut (start .args .words .now) (5 * start .args .i) 5, cut (start .args .floats .now) (10 * start .args .i) 10)
+returns c = let start = c .before .before .before .before .before in cc (cut (start .args .words .now) (4 * start .args .i) 4, cut (start .args .floats .now) (10 * start .args .i) 10)
 
 pub body-at-spec : {M : Type 1} → statement M
 body-at-spec =

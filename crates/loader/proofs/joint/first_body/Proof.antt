@@ -9,13 +9,13 @@ use Rattle.loader.proofs.joint.first_body.Tie as tie
 cast-result : tie.Need-cast-result
 cast-result c =
     let c2 = c .before .before in
-    omega (arith, c .shared-slice-known .given (5 * c2 .args .h .bodies + 6 * c2 .args .j + 1))
+    omega (arith, c .shared-slice-known .given (4 * c2 .args .h .bodies + 6 * c2 .args .j + 1))
 
 returns : tie.Need-returns
 unfolding jointAt
 returns c =
     let c2 = c .before .before in
-    λ f. place _ (5 * c2 .args .h .bodies + 6 * c2 .args .j) 6 1 _ 0 (omega arith) (omega arith)
+    λ f. place _ (4 * c2 .args .h .bodies + 6 * c2 .args .j) 6 1 _ 0 (omega arith) (omega arith)
 
 pub first-body-spec : {M : Type 1} → statement M
 first-body-spec =

@@ -11,7 +11,7 @@ use Rattle.loader.proofs.joint.has_motor.Tie as tie
 returns : tie.Need-returns
 returns c =
     let c2 = c .before .before in
-    ap (λ m. not (eqb m 0)) (place _ (5 * c2 .args .h .bodies + 6 * c2 .args .j) 6 5 _ 0 (omega arith) (omega arith))
+    ap (λ m. not (eqb m 0)) (place _ (4 * c2 .args .h .bodies + 6 * c2 .args .j) 6 5 _ 0 (omega arith) (omega arith))
 
 pub has-motor-spec : {M : Type 1} → statement M
 has-motor-spec =

@@ -14,7 +14,7 @@ returns c =
     let words = start .args .words .now in
     let floats = start .args .floats .now in
     let j = start .args .j in
-    let w = 5 * h .bodies + 6 * j in
+    let w = 4 * h .bodies + 6 * j in
     let f = 10 * h .bodies + 30 * j in
     cc (cut words w 6, cut floats f 30, known (part 6 w words) (part 30 f floats) (start .pre .0 .kinds j (start .pre .1)))
 

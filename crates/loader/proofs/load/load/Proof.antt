@@ -14,7 +14,7 @@ use Rattle.loader.proofs.load.load.Tie as tie
 slice-aggregate-load-bodies : tie.Need-slice-aggregate-load-bodies
 slice-aggregate-load-bodies c =
     let start = c .before .before .before .before in
-    sym (length-take-le (5 * start .args .h .bodies) (start .args .words .now) (omega arith))
+    sym (length-take-le (4 * start .args .h .bodies) (start .args .words .now) (omega arith))
 
 slice-aggregate-load-bodies-2 : tie.Need-slice-aggregate-load-bodies-2
 slice-aggregate-load-bodies-2 c =
@@ -26,7 +26,7 @@ load-bodies-requires c κs =
     let start = c .before .before .before .before .before in
     let b = start .args .h .bodies in (
       omega (arith, fits (start .args .card .now) (start .pre .0) (start .args .h) (start .pre .1)),
-      length-take-le (5 * b) (start .args .words .now) (omega arith),
+      length-take-le (4 * b) (start .args .words .now) (omega arith),
       length-take-le (10 * b) (start .args .floats .now) (omega arith),
     )
 
@@ -48,7 +48,7 @@ load-joints-requires c κs =
     let h = start .args .h in
     let words = start .args .words .now in
     let floats = start .args .floats .now in
-    let w = second-length (5 * h .bodies) (first .load-bodies .last .1 .1 .1 .0) words (ap length (first .load-bodies .ensures .0) ∙ words-length card h) in
+    let w = second-length (4 * h .bodies) (first .load-bodies .last .1 .1 .1 .0) words (ap length (first .load-bodies .ensures .0) ∙ words-length card h) in
     let f = second-length (10 * h .bodies) (first .load-bodies .last .1 .1 .1 .1 .0) floats (ap length (first .load-bodies .ensures .1) ∙ floats-length card h) in
     (omega (arith, fits card (start .pre .0) h (start .pre .1)), w ∙ omega arith, f ∙ omega arith)
 
@@ -62,7 +62,7 @@ returns c =
     let bodies = first .load-bodies in
     let joints = second .load-joints in
     loads card h (start .pre .0) (start .pre .1)
-    (halves (5 * h .bodies) (bodies .last .1 .1 .1 .0) (start .args .words .now) (ap length (bodies .ensures .0) ∙ words-length card h) (joints .last .1 .1 .1 .0))
+    (halves (4 * h .bodies) (bodies .last .1 .1 .1 .0) (start .args .words .now) (ap length (bodies .ensures .0) ∙ words-length card h) (joints .last .1 .1 .1 .0))
     (bodies .ensures .0) (joints .ensures .0)
     (halves (10 * h .bodies) (bodies .last .1 .1 .1 .1 .0) (start .args .floats .now) (ap length (bodies .ensures .1) ∙ floats-length card h) (joints .last .1 .1 .1 .1 .0))
     (bodies .ensures .1) (joints .ensures .1)

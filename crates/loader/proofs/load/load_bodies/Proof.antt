@@ -12,7 +12,7 @@ use Rattle.loader.proofs.load.load_bodies.Statement.{statement}
 use Rattle.loader.proofs.load.load_bodies.Tie as tie
 
 abbrev Inv-loop : tie.InvT-loop
-Inv-loop card at bodies words₀ floats₀ i₀ words floats i = (i ≤ bodies) × Written body bodyWordsOf 5 body-words-sized card (8 * at) bodies i words × Written body bodyFloatsOf 10 body-floats-sized card (8 * at) bodies i floats
+Inv-loop card at bodies words₀ floats₀ i₀ words floats i = (i ≤ bodies) × Written body bodyWordsOf 4 body-words-sized card (8 * at) bodies i words × Written body bodyFloatsOf 10 body-floats-sized card (8 * at) bodies i floats
 
 abbrev μ-loop : tie.MeasureT-loop
 μ-loop card at bodies words₀ floats₀ i₀ words floats i = bodies - i
@@ -24,7 +24,7 @@ loop-holds c =
     let n = start .args .bodies in
     let p = 8 * start .args .at in (
       omega arith,
-      none body bodyWordsOf 5 body-words-sized card p n (start .args .words .now) (start .pre .1),
+      none body bodyWordsOf 4 body-words-sized card p n (start .args .words .now) (start .pre .1),
       none body bodyFloatsOf 10 body-floats-sized card p n (start .args .floats .now) (start .pre .2),
     )
 
@@ -35,9 +35,9 @@ load-body-requires c κs =
     let start = c8 in
     let l = c4 .loop in
     let from = start .args .at + 94 * l .i in
-    rw (cut (start .args .card .now) from 94, cut (l .words) (5 * l .i) 5, cut (l .floats) (10 * l .i) 10) (
+    rw (cut (start .args .card .now) from 94, cut (l .words) (4 * l .i) 4, cut (l .floats) (10 * l .i) 10) (
       omega (arith, part-length (start .args .card .now) from 94 (omega arith)),
-      part-length (l .words) (5 * l .i) 5 (omega arith),
+      part-length (l .words) (4 * l .i) 4 (omega arith),
       part-length (l .floats) (10 * l .i) 10 (omega arith),
     )
 
@@ -52,7 +52,7 @@ loop-again c =
     let from = start .args .at + 94 * l .i in
     let end : 752 ≤ 8 * (from + 94 - from) = omega arith in (
       omega arith,
-      turn body bodyWordsOf 5 body-words-sized card p n (l .i) from (from + 94 - from) (5 * l .i + 5 - 5 * l .i) (l .words) (omega arith) (omega arith) end (omega arith) (call .load-body .ensures .0) (l .inv .1),
+      turn body bodyWordsOf 4 body-words-sized card p n (l .i) from (from + 94 - from) (4 * l .i + 4 - 4 * l .i) (l .words) (omega arith) (omega arith) end (omega arith) (call .load-body .ensures .0) (l .inv .1),
       turn body bodyFloatsOf 10 body-floats-sized card p n (l .i) from (from + 94 - from) (10 * l .i + 10 - 10 * l .i) (l .floats) (omega arith) (omega arith) end (omega arith) (call .load-body .ensures .1) (l .inv .2),
     )
 
@@ -65,7 +65,7 @@ returns c =
     let card = start .args .card .now in
     let n = start .args .bodies in
     let p = 8 * start .args .at in (
-      done body bodyWordsOf 5 body-words-sized card p n (l .i) (l .words) (omega arith) (omega arith) (l .inv .1),
+      done body bodyWordsOf 4 body-words-sized card p n (l .i) (l .words) (omega arith) (omega arith) (l .inv .1),
       done body bodyFloatsOf 10 body-floats-sized card p n (l .i) (l .floats) (omega arith) (omega arith) (l .inv .2),
     )
 

@@ -1,21 +1,12 @@
-use mathlib.Core.Path.{sym, _∙_}
-use Rattle.tick.specs.Parts.{jointSolved}
 use Rattle.tick.proofs.Results.{tested-is}
 use Rattle.tick.proofs.joint.solve_joint.Statement.{statement}
 use Rattle.tick.proofs.joint.solve_joint.Tie as tie
 
 returns : tie.Need-returns
-unfolding jointSolved
 returns c =
     let c1 = c .before in
-    let c2 = c1 .before in
-    let a = c2 .before .args in
-    rw (tested-is (a .body1) (a .body2) (a .bodies) _ _ (a .dt) (a .joint))
-    (simp (
-      c2 .dominated .ensures,
-      c1 .solve-by-kind .ensures,
-      c .tested .ensures,
-    ))
+    let a = c1 .before .args in
+    rw (tested-is (a .body1) (a .body2) (a .bodies) (a .inertia1) (a .inertia2) (a .dt) (a .joint)) (simp (c1 .solve-by-kind .ensures, c .tested .ensures))
 
 pub solve-joint-spec : {M : Type 1} → statement M
-solve-joint-spec = tie.close (tie.spec (λ _ _. tt) (λ _ _. tt) (λ _ _. tt) returns)
+solve-joint-spec = tie.close (tie.spec (λ _ _. tt) (λ _ _. tt) returns)
