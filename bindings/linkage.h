@@ -80,7 +80,8 @@ enum linkage_answer {
     LINKAGE_STATE_NUMBER = 12,      /* On a tick, a number of the state is not finite, or a position coordinate is over 4,096 in size. */
     LINKAGE_STOPPED = 13,           /* The tick is stopped: after a joint's solve one of its numbers or of its two bodies', or at the end a new number of the
                                        state, is not finite, or a new position coordinate is over 4,096 in size. */
-    LINKAGE_DOMINANCE = 17          /* Asked directly after 6. A moving body's dominance is not zero: the card is to be redrawn with an anchored body. */
+    LINKAGE_DOMINANCE = 17,         /* Asked directly after 6. A moving body's dominance is not zero: the card is to be redrawn with an anchored body. */
+    LINKAGE_ANGLE_LIMIT = 19        /* Asked directly after 7. A limit of a hinge or a ball has a min or max over 7 in size. */
 };
 
 /* An answer in words. */
@@ -101,6 +102,7 @@ static inline const char *linkage_text(uint32_t answer) {
     case LINKAGE_STATE_NUMBER: return "a number of the state is not finite, or a body is too far out";
     case LINKAGE_STOPPED: return "the tick would leave a number that is not finite, or a body too far out";
     case LINKAGE_DOMINANCE: return "a body of the card has a dominance, which is no longer known: an anchored body is to take its place";
+    case LINKAGE_ANGLE_LIMIT: return "an angle limit of a hinge or a ball is over 7 radians in size";
     default: return "an answer that this version does not know";
     }
 }
@@ -109,7 +111,7 @@ static inline const char *linkage_text(uint32_t answer) {
 extern "C" {
 #endif
 
-/* A card's refusals: those up to 10, and 17. */
+/* A card's refusals: those up to 10, 17 and 19. */
 uint32_t linkage_check(const uint8_t *card, size_t card_bytes);
 
 /* A card's bodies and joints, and the floats of its state; zeros where the card is refused. */

@@ -124,6 +124,11 @@ static void record_refusals(void) {
     put(card.bytes + 4, 0x7fc00000, 4);
     card_refused(&card, LINKAGE_FLOAT_OUT_OF_RANGE);
     put_float(card.bytes + 4, 0);
+    joint[0] ^= 0xa0; /* A hinge. */
+    put_float(joint + 91, 8);
+    card_refused(&card, LINKAGE_ANGLE_LIMIT);
+    joint[0] ^= 0xa0;
+    put_float(joint + 91, 1.5f);
     put_float(joint + 87, 1.75f);
     card_refused(&card, LINKAGE_LIMIT_ORDER);
     put_float(joint + 87, 0);

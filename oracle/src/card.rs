@@ -10,7 +10,7 @@ pub const JOINT_NUMBERS: usize = 12;
 pub const CAPACITY: usize = 32;
 
 /// The refusals of a card, in the order in which they are asked.
-pub const REFUSALS: [u32; 11] = [1, 2, 3, 4, 5, 6, 17, 7, 8, 9, 10];
+pub const REFUSALS: [u32; 12] = [1, 2, 3, 4, 5, 6, 17, 7, 19, 8, 9, 10];
 
 /// A card as its fields, whatever they hold: not every value is one that the checks accept.
 #[derive(Clone, Debug, Default)]
@@ -331,6 +331,9 @@ pub fn check_into(card: &mut Card, bytes: &[u8]) -> Result<(), u32> {
     {
         return Err(7);
     }
+    if card.joints.iter().any(|joint| !joint.angles_in_reach()) {
+        return Err(19);
+    }
     if card.joints.iter().any(|joint| {
         joint.limit1_range[0] > joint.limit1_range[1]
             || joint.limit2_range[0] > joint.limit2_range[1]
@@ -432,6 +435,21 @@ fn joint_in_range(joint: &Joint) -> bool {
         && cap.is_finite()
         && cap >= 0.0
         && !joint.compliances.iter().any(|compliance| *compliance < 0.0)
+}
+
+impl Joint {
+    /// 19: the angle limits in use, a hinge's and both of a ball, are at most 7 in size.
+    pub fn angles_in_reach(&self) -> bool {
+        let in_reach = |range: &[f32; 2]| each(range, |angle| angle.abs() <= 7.0);
+        match self.kind {
+            HINGE => !self.limit1 || in_reach(&self.limit1_range),
+            BALL => {
+                (!self.limit1 || in_reach(&self.limit1_range))
+                    && (!self.limit2 || in_reach(&self.limit2_range))
+            }
+            _ => true,
+        }
+    }
 }
 
 /// 9: the squares summed in f32, left to right, lie within 1 ± 2^-10.
@@ -814,6 +832,39 @@ mod tests {
                     card.joints[0].motor = 3;
                     card.joints[0].motor_numbers[2] = number;
                 });
+            }
+        }
+    }
+
+    #[test]
+    fn angles_in_reach() {
+        for (range, angle, other) in [
+            ([7.0, 7.0], 0, 0),
+            ([-7.0, -7.0], 0, 0),
+            ([-7.0, 7.0], 0, 0),
+            ([0.0, 7f32.next_up()], 19, 0),
+            ([-7f32.next_up(), 0.0], 19, 0),
+            ([1024.0, 1024.0], 19, 0),
+            ([8.0, 1.0], 19, 8),
+        ] {
+            for (kind, number) in [
+                (HINGE, angle),
+                (BALL, angle),
+                (SLIDE, other),
+                (TETHER, other),
+            ] {
+                expect(kind, number, |card| {
+                    card.joints[0].limit1 = true;
+                    card.joints[0].limit1_range = range;
+                });
+            }
+            expect(BALL, angle, |card| {
+                card.joints[0].limit2 = true;
+                card.joints[0].limit2_range = range;
+            });
+            for kind in [HINGE, BALL] {
+                expect(kind, 6, |card| card.joints[0].limit1_range = range);
+                expect(kind, 6, |card| card.joints[0].limit2_range = range);
             }
         }
     }

@@ -245,8 +245,9 @@ impl Random {
 
     /// An ordered range of angles.
     pub fn angle_range(&mut self) -> [f32; 2] {
-        let ends = match self.below(5) {
+        let ends = match self.below(6) {
             0 => [0.0, 0.0],
+            5 => self.pick(&[[7.0, 7.0], [-7.0, -7.0], [-7.0, 7.0]]),
             1 => [-0.5, 0.5],
             2 => [self.between(-3.2, 3.2); 2],
             3 => [self.between(-7.0, 7.0), self.between(-7.0, 7.0)],
@@ -514,11 +515,13 @@ impl JointCase {
         }
     }
 
-    /// Whether avian's own assertions hold, ordered limits and a finite time step, and inverse masses are numbers, so that there is a largest.
+    /// Whether avian's own assertions hold, ordered limits and a finite time step, inverse masses are numbers, so that there is a largest, and angle
+    /// limits are as a card may have them.
     pub fn in_domain(&self) -> bool {
         let in_order = |[min, max]: [f32; 2]| min <= max;
         in_order(self.joint.limit1_range)
             && in_order(self.joint.limit2_range)
+            && self.joint.angles_in_reach()
             && self.dt.is_finite()
             && !self.inertia1.inv_mass.is_nan()
             && !self.inertia2.inv_mass.is_nan()
@@ -1215,6 +1218,10 @@ pub fn at_borders() -> Vec<Vec<u8>> {
             [-1.0, -1f32.next_up()],
             [f32::from_bits(1), 0.0],
             [1024.0, -1024.0],
+            [7.0, 7.0],
+            [-7.0, -7.0],
+            [7f32.next_up(), 7f32.next_up()],
+            [-7f32.next_up(), -7f32.next_up()],
         ] {
             edited(&|card| card.joints[0].limit1_range = range);
             edited(&|card| card.joints[0].limit2_range = range);
@@ -1270,6 +1277,23 @@ pub fn dominant(body: usize, bit: usize, anchored: bool) -> Vec<u8> {
         edition: 1,
         rate: 64,
         bodies,
+        ..Card::default()
+    };
+    card.encode()
+}
+
+/// A card with one limited joint, whose first or second limit is in use or only set.
+pub fn limited(kind: u32, second: bool, used: bool, range: [f32; 2]) -> Vec<u8> {
+    let mut joint = Joint::plain(kind, 0, 1);
+    match second {
+        true => (joint.limit2, joint.limit2_range) = (used, range),
+        false => (joint.limit1, joint.limit1_range) = (used, range),
+    }
+    let card = Card {
+        edition: 1,
+        rate: 64,
+        bodies: vec![Body::UNIT, Body::ANCHORED],
+        joints: vec![joint],
         ..Card::default()
     };
     card.encode()
@@ -1376,6 +1400,26 @@ pub fn damage(random: &mut Random, bytes: &mut Vec<u8>, number: u32) {
                 _ => 8,
             };
             set_float(bytes, place, value);
+        }
+        19 => {
+            let turns = |i: &usize| {
+                let kind = bytes.get(joint(*i)).map(|byte| (byte >> 5) as u32);
+                kind == Some(HINGE) || kind == Some(BALL)
+            };
+            let turning: Vec<usize> = (0..joints).filter(turns).collect();
+            if !turning.is_empty() {
+                let at = joint(random.pick(&turning));
+                let second = (bytes[at] >> 5) as u32 == BALL && random.one_in(2);
+                let first = at + 3 + 4 * if second { 23 } else { 21 };
+                let angle = random.pick(&[7f32.next_up(), 8.0, 1024.0]);
+                if at + 1 < bytes.len() {
+                    bytes[at + 1] |= if second { 0x02 } else { 0x04 };
+                }
+                match random.one_in(2) {
+                    true => set_float(bytes, first, -angle),
+                    false => set_float(bytes, first + 4, angle),
+                }
+            }
         }
         8 => {
             for i in 0..joints {

@@ -2,26 +2,27 @@
 use Prim.Native.Nat.{ℕ, zero, suc, _+_, _*_, _<_}
 use native.Mathlib.Nat.{le-of-suc-le-suc}
 use native.Mathlib.Omega.{arith}
-use mathlib.Core.Path.{_≡_, refl}
+use mathlib.Core.Path.{_≡_, refl, sym, subst, _∙_}
 use mathlib.Core.Bool.{Bool, true, false, _||_, _&&_, cond, true≢false}
 use mathlib.Core.List.{List, [], _∷_}
 use mathlib.Core.Logic.{inl}
 use lib.ListN.{length, getD, List·getD-eq-default}
 use lib.Dec.{T, leb, ltb, eqb}
 use lib.Ieee.{Float, binary32, ofBits, ofFields, neg, fits, le}
-use lib.Ieee.Bits.{ofBits-fits}
-use lib.Ieee.Fits.{neg-fits}
+use lib.Ieee.Bits.{ofBits-fits, is-true}
+use lib.Ieee.Fits.{neg-fits, and-r}
 use borrow.Author.Tests.{ltb-false, leb-true, leb-false, eqb-true, eqb-false, not-false}
 use Rattle.laws.proofs.Place.{Held, le→place, le-real}
 use Rattle.laws.proofs.Between.{amid-finite}
-use Rattle.scalar.specs.Arith.{f32, f0, largest}
-use Rattle.scalar.specs.Scalar.{outside}
+use Rattle.scalar.specs.Arith.{f32, f0, f7, largest}
+use Rattle.scalar.specs.Scalar.{absOf, isFinite, outside}
+use Rattle.scalar.proofs.Finite.{over-is}
 use Rattle.card.specs.Format.{Range}
 use Rattle.card.specs.Format.{Any, Bounded, NotNegative, Cap}
 use Rattle.card.specs.Format.{bitsAt, bound, Cell, widthOf, numbersAt, recordsAt, anyCell, unusedSet, outOf, outOfRange}
-use Rattle.card.specs.Card.{at, body, noKind, kinds, kindAt, editions, editionAt, cardOf}
-use Rattle.card.specs.Checks.{any, misfit, dominant, anchored, wrongPair, Refusal, refuse, firstOf, cardChecks, checkOf}
-use Rattle.card.specs.Accepted.{Real, In, Ranged, Accepted}
+use Rattle.card.specs.Card.{at, body, noKind, kinds, kindAt, kindOf, editions, editionAt, cardOf, float}
+use Rattle.card.specs.Checks.{any, misfit, dominant, wide, tooWide, anchored, wrongPair, Refusal, refuse, firstOf, cardChecks, checkOf}
+use Rattle.card.specs.Accepted.{Real, In, Ranged, Narrow, Accepted}
 use Rattle.card.proofs.Bools.{both, or-left, or-right}
 use Rattle.card.proofs.Cut.{records-length, record-at}
 
@@ -119,6 +120,23 @@ known j e = within (leb (length kinds) (at 0 j)) refl
     within false n = leb-false (length kinds) (at 0 j) n
     within true y = absurd (true≢false (rw (List·getD-eq-default kinds noKind {n = at 0 j} (leb-true (length kinds) (at 0 j) y)) at e))
 
+-- ---- 19: angle limits at most 7 in size
+
+in-size : (x : Float) → outside x (neg f7) f7 ≡ false → T (le (absOf x) f7)
+unfolding isFinite ofBits ofFields
+in-size x e = and-r (isFinite x) (le (absOf x) f7) (subst T (sym (not-false (isFinite x && le (absOf x) f7) (sym (over-is x f7 refl) ∙ e))) tt)
+
+not-wide : (k : ℕ) (j : List ℕ) → wide k j ≡ false → Narrow k j
+not-wide k j e =
+    let low = outside (float j k) (neg f7) f7 in
+    let high = outside (float j (k + 1)) (neg f7) f7 in
+    (in-size (float j k) (or-left low high e), in-size (float j (k + 1)) (or-right low high e))
+
+narrow : (j : List ℕ) → tooWide j ≡ false → T (kindOf j .angles) → Narrow 28 j × Narrow 30 j
+narrow j e a =
+    let both : (wide 28 j || wide 30 j) ≡ false = rw (is-true (kindOf j .angles) a) at e in
+    (not-wide 28 j (or-left (wide 28 j) (wide 30 j) both), not-wide 30 j (or-right (wide 28 j) (wide 30 j) both))
+
 -- ---- 10: the bodies that a joint names
 
 module _ (bodies : List (List ℕ)) (a b : ℕ) (e : wrongPair bodies a b ≡ false) where
@@ -173,6 +191,7 @@ accepted card z =
                   kind = known j fit;
                   body1 = first-body (c .bodies) (at 1 j) (at 2 j) pair;
                   body2 = second-body (c .bodies) (at 1 j) (at 2 j) pair;
+                  angles = narrow j (any-not tooWide (c .joints) i h (t 19));
                 };
           };
     }

@@ -8,7 +8,7 @@ use Rattle.vector.specs.Rotation.{normSquaredOf}
 use Rattle.card.specs.declared.checks.Faults.{Faults}
 use Rattle.card.specs.Format.{numbersAt, recordsAt, unusedSet, outOfRange}
 use Rattle.card.specs.Card.{at, body, quat}
-use Rattle.card.specs.Checks.{any, misfit, dominant, reversed, offUnit, offAxis, wrongPair}
+use Rattle.card.specs.Checks.{any, misfit, dominant, tooWide, reversed, offUnit, offAxis, wrongPair}
 use Rattle.card.specs.Parts.{header1, joint1, headerFaults, bodyFaults, jointFaults, faultsOf, usedOut, pairOf}
 use Rattle.card.proofs.Bools.{or-left, or-right}
 use Rattle.card.proofs.Unused.{used-enough, any-agree}
@@ -57,6 +57,10 @@ module _ (card : List ℕ) (bodies joints : ℕ) where
               (or-right (unusedSet header1 header-row || any (unusedSet body) body-rows) _ t),
         )
         refl
+
+    pub row-19 : j .angles ≡ any tooWide joint-rows
+    unfolding jointFaults faultsOf
+    row-19 = rw (ej, place) refl
 
     pub row-8 : j .limits ≡ any (λ r. reversed 28 r || reversed 30 r) joint-rows
     unfolding jointFaults faultsOf

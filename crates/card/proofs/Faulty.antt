@@ -12,7 +12,7 @@ use Rattle.card.specs.Parts.{faults, orFaults, faultsOf}
 use Rattle.card.proofs.Cut.{numbers-part, next-record}
 
 module _ (f : List ℕ → Faults) where
-  pub none-yet : (l : List (List ℕ)) → orFaults (faults false false false false false) (faultsOf f l) ≡ faultsOf f l
+  pub none-yet : (l : List (List ℕ)) → orFaults (faults false false false false false false) (faultsOf f l) ≡ faultsOf f l
   unfolding orFaults
   none-yet l = refl
 
@@ -24,13 +24,14 @@ module _ (f : List ℕ → Faults) where
         or-assoc (a .bits) (o .bits) (any (λ x. f x .bits) l),
         or-assoc (a .dominance) (o .dominance) (any (λ x. f x .dominance) l),
         or-assoc (a .floats) (o .floats) (any (λ x. f x .floats) l),
+        or-assoc (a .angles) (o .angles) (any (λ x. f x .angles) l),
         or-assoc (a .limits) (o .limits) (any (λ x. f x .limits) l),
         or-assoc (a .norms) (o .norms) (any (λ x. f x .norms) l),
       )
 
   pub at-end : (a : Faults) → orFaults a (faultsOf f []) ≡ a
   unfolding orFaults faultsOf any
-  at-end a = rw (or-false (a .bits), or-false (a .dominance), or-false (a .floats), or-false (a .limits), or-false (a .norms))
+  at-end a = rw (or-false (a .bits), or-false (a .dominance), or-false (a .floats), or-false (a .angles), or-false (a .limits), or-false (a .norms))
 
 -- ---- a loop over the records of a row
 

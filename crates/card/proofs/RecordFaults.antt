@@ -17,7 +17,7 @@ use Rattle.card.specs.declared.checks.Faults.{Faults}
 use Rattle.card.specs.Format.{bound, Cell, numbersAt, unusedSet, outOf}
 use Rattle.card.specs.Card.{at, flag, always, never, bits, moving, body, kindOf, compliant, motored}
 use Rattle.card.specs.Checks.{offUnit}
-use Rattle.card.specs.Parts.{header1, joint1, floatAt, vec3At, quatAt, limitAt, normsAt, headerBits, bodyBits, jointBits, kindFor, setAt, outsideAt, usedOut, faults, fieldFaults, headerFaults, bodyFaults, jointFaults}
+use Rattle.card.specs.Parts.{header1, joint1, floatAt, vec3At, quatAt, wideAt, limitAt, normsAt, headerBits, bodyBits, jointBits, kindFor, setAt, outsideAt, usedOut, faults, fieldFaults, headerFaults, bodyFaults, jointFaults}
 use Rattle.card.proofs.Cells.{Row, anyAt, fieldwise, record-fieldwise}
 
 abbrev pub row : ℕ → (List ℕ → Bool) → Range → Row
@@ -43,7 +43,7 @@ header-rows = row 1 always Bounded ∷ row 1 always NotNegative ∷ []
 
 abbrev header-found : List ℕ → HeaderBits → Faults
 header-found l h =
-    fieldFaults (fieldFaults (faults (isSet (h .zero)) false false false false) l true (neg bound) bound 4 1) l true f0 bound 8 1
+    fieldFaults (fieldFaults (faults (isSet (h .zero)) false false false false false) l true (neg bound) bound 4 1) l true f0 bound 8 1
 
 module _ (l : List ℕ) where
   abbrev header-numbers : List ℕ
@@ -74,7 +74,7 @@ body-own b = b .anchored && (isSet (b .«lock_x») || isSet (b .«lock_y») || i
 
 abbrev body-fields : List ℕ → BodyBits → Faults
 body-fields l b =
-    let start = faults (body-own b) (isSet (b .dominance)) false false false in
+    let start = faults (body-own b) (isSet (b .dominance)) false false false false in
     let f1 = fieldFaults start l true (neg bound) bound 2 10 in
     let f2 = fieldFaults f1 l (not (b .anchored)) (neg bound) bound 42 6 in
     let f3 = fieldFaults f2 l (not (b .anchored)) f0 bound 66 1 in
@@ -106,7 +106,7 @@ module _ (l : List ℕ) where
   unfolding fieldFaults outsideAt outOf bodyBits
   body-beyond = record-fieldwise (beyond body-numbers) l body-cells body-rows
 
-  pub body-is : let g = body-fields l (bodyBits body-numbers) in faults (g .bits) (g .dominance) (g .floats) false (offUnit (normSquaredOf (quatAt l 14))) ≡ bodyFaults body-numbers
+  pub body-is : let g = body-fields l (bodyBits body-numbers) in faults (g .bits) (g .dominance) (g .floats) false false (offUnit (normSquaredOf (quatAt l 14))) ≡ bodyFaults body-numbers
   unfolding bodyFaults fieldFaults quatAt floatAt numbersAt bodyBits
   body-is = rw (body-unused, body-beyond) refl
 
@@ -125,7 +125,7 @@ abbrev joint-fields : List ℕ → JointBits → JointKind → Faults
 joint-fields l b k =
     let many = k .compliances in
     let motor = isSet (b .motor) in
-    let start = faults (isSet (b .zero)) false false false false in
+    let start = faults (isSet (b .zero)) false false false false false in
     let f1 = fieldFaults start l true (neg bound) bound 3 6 in
     let f2 = fieldFaults f1 l (k .bases) (neg bound) bound 27 8 in
     let f3 = fieldFaults f2 l (k .axis) (neg bound) bound 59 3 in
@@ -140,7 +140,7 @@ joint-fields l b k =
     fieldFaults f11 l motor (neg bound) bound 115 2
 
 abbrev joint-found : List ℕ → JointBits → JointKind → Faults → Faults
-joint-found l b k g = faults (g .bits || not (k .fits)) false (g .floats) (limitAt l 87 || limitAt l 95) (normsAt l (k .bases) (k .axis))
+joint-found l b k g = faults (g .bits || not (k .fits)) false (g .floats) (k .angles && (wideAt l 87 || wideAt l 95)) (limitAt l 87 || limitAt l 95) (normsAt l (k .bases) (k .axis))
 
 module _ (l : List ℕ) where
   abbrev joint-numbers : List ℕ
@@ -165,13 +165,13 @@ module _ (l : List ℕ) where
   joint-beyond = record-fieldwise (beyond joint-numbers) l joint-cells joint-rows
 
   pub joint-is : joint-found l b k (joint-fields l b k) ≡ jointFaults joint-numbers
-  unfolding jointFaults limitAt normsAt vec3At quatAt floatAt numbersAt jointBits kindFor
+  unfolding jointFaults wideAt limitAt normsAt vec3At quatAt floatAt numbersAt jointBits kindFor
   joint-is = rw (joint-unused, joint-beyond) refl
 
   -- as the calls give them
-  pub joint-are : {b' : JointBits} {k' : JointKind} {f1 f2 f3 f4 f5 f6 f7 f8 f9 f10 f11 f12 : Faults} {u v w : Bool}
+  pub joint-are : {b' : JointBits} {k' : JointKind} {f1 f2 f3 f4 f5 f6 f7 f8 f9 f10 f11 f12 : Faults} {s t u v w : Bool}
       → b' ≡ b → k' ≡ kindFor (b' .kind) (b' .first) (b' .second) (isSet (b' .motor))
-      → f1 ≡ fieldFaults (faults (isSet (b' .zero)) false false false false) l true (neg bound) bound 3 6
+      → f1 ≡ fieldFaults (faults (isSet (b' .zero)) false false false false false) l true (neg bound) bound 3 6
       → f2 ≡ fieldFaults f1 l (k' .bases) (neg bound) bound 27 8
       → f3 ≡ fieldFaults f2 l (k' .axis) (neg bound) bound 59 3
       → f4 ≡ fieldFaults f3 l (ltb 0 (k' .compliances)) f0 bound 71 1
@@ -183,7 +183,7 @@ module _ (l : List ℕ) where
       → f10 ≡ fieldFaults f9 l (isSet (b' .motor)) (neg bound) bound 103 2
       → f11 ≡ fieldFaults f10 l (isSet (b' .motor)) f0 largest 111 1
       → f12 ≡ fieldFaults f11 l (isSet (b' .motor)) (neg bound) bound 115 2
-      → u ≡ limitAt l 87 → v ≡ limitAt l 95 → w ≡ normsAt l (k' .bases) (k' .axis)
-      → faults (f12 .bits || not (k' .fits)) false (f12 .floats) (u || v) w ≡ jointFaults joint-numbers
+      → s ≡ wideAt l 87 → t ≡ wideAt l 95 → u ≡ limitAt l 87 → v ≡ limitAt l 95 → w ≡ normsAt l (k' .bases) (k' .axis)
+      → faults (f12 .bits || not (k' .fits)) false (f12 .floats) (k' .angles && (s || t)) (u || v) w ≡ jointFaults joint-numbers
   unfolding jointBits
-  joint-are eb ek e1 e2 e3 e4 e5 e6 e7 e8 e9 e10 e11 e12 eu ev ew = rw (e12, e11, e10, e9, e8, e7, e6, e5, e4, e3, e2, e1, eu, ev, ew, ek, eb) joint-is
+  joint-are eb ek e1 e2 e3 e4 e5 e6 e7 e8 e9 e10 e11 e12 es et eu ev ew = rw (e12, e11, e10, e9, e8, e7, e6, e5, e4, e3, e2, e1, es, et, eu, ev, ew, ek, eb) joint-is

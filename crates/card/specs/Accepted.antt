@@ -6,11 +6,12 @@ use lib.ListN.{length, getD}
 use lib.Dec.{T}
 use lib.Ieee.{Float, binary32, fits, le, neg}
 use lib.Ieee.Scale.{finite}
-use Rattle.scalar.specs.Arith.{f32, f0}
+use Rattle.scalar.specs.Arith.{f32, f0, f7}
+use Rattle.scalar.specs.Scalar.{absOf}
 use Rattle.card.specs.Format.{Range}
 use Rattle.card.specs.Format.{Any, Bounded, NotNegative, Cap}
 use Rattle.card.specs.Format.{bitsAt, bound, Cell, widthOf}
-use Rattle.card.specs.Card.{at, body, kinds, Edition, editions, editionAt, Card, cardOf}
+use Rattle.card.specs.Card.{at, body, kinds, kindOf, Edition, editions, editionAt, Card, cardOf, float}
 
 -- a finite f32, not below another
 pub record Real (low x : Float) : Type 0 where
@@ -30,11 +31,16 @@ rangeAt cs k = getD (map (λ c. c .range) cs) k Any
 abbrev pub Ranged : List Cell → List ℕ → Type 0
 Ranged cs ns = (k : ℕ) → In (rangeAt cs k) (at k ns)
 
+-- a limit's min, number k, and its max are at most 7 in size
+abbrev pub Narrow : ℕ → List ℕ → Type 0
+Narrow k j = T (le (absOf (float j k)) f7) × T (le (absOf (float j (k + 1))) f7)
+
 pub record AcceptedJoint (cs : List Cell) (bodies : ℕ) (j : List ℕ) : Type 0 where
   pub ranged : Ranged cs j
   pub kind : at 0 j < length kinds
   pub body1 : at 1 j < bodies
   pub body2 : at 2 j < bodies
+  pub angles : T (kindOf j .angles) → Narrow 28 j × Narrow 30 j
 
 pub record AcceptedCard (e : Edition) (c : Card) : Type 0 where
   pub bodies : length (c .bodies) ≡ at 1 (c .header)

@@ -45,29 +45,30 @@ body =
     bits 1 always ++ bits 1 moving ++ bits 1 moving ++ bits 1 moving ++ bits 8 moving ++ bits 4 never
     ++ floats 10 always Bounded ++ floats 6 moving Bounded ++ floats 1 moving NotNegative ++ floats 6 moving Bounded
 
--- a kind of joint: whether it has bases and an axis, how many compliances, and whether a first limit, a second limit and a motor fit, being there or not
+-- a kind of joint: whether it has bases and an axis, whether its limits are angles, how many compliances, and whether a first limit, a second limit and a motor fit, being there or not
 pub record Kind : Type 0 where
   pub bases : Bool
   pub axis : Bool
+  pub angles : Bool
   pub compliances : ℕ
   pub fits : Bool → Bool → Bool → Bool
 
-abbrev kind : Bool → Bool → ℕ → (Bool → Bool → Bool → Bool) → Kind
-kind b a c f = record { bases = b; axis = a; compliances = c; fits = f }
+abbrev kind : Bool → Bool → Bool → ℕ → (Bool → Bool → Bool → Bool) → Kind
+kind b a g c f = record { bases = b; axis = a; angles = g; compliances = c; fits = f }
 
 -- fixed, hinge, slide, ball, tether
 abbrev pub kinds : List Kind
 kinds =
-    kind true false 2 (λ first second motor. not first && not second && not motor)
-    ∷ kind true true 3 (λ first second motor. not second)
-    ∷ kind true true 2 (λ first second motor. not second)
-    ∷ kind true true 3 (λ first second motor. not motor)
-    ∷ kind false false 1 (λ first second motor. first && not second && not motor)
+    kind true false false 2 (λ first second motor. not first && not second && not motor)
+    ∷ kind true true true 3 (λ first second motor. not second)
+    ∷ kind true true false 2 (λ first second motor. not second)
+    ∷ kind true true true 3 (λ first second motor. not motor)
+    ∷ kind false false false 1 (λ first second motor. first && not second && not motor)
     ∷ []
 
 -- nothing fits above them
 abbrev pub noKind : Kind
-noKind = kind false false 0 (λ first second motor. false)
+noKind = kind false false false 0 (λ first second motor. false)
 
 unfoldable pub kindAt : ℕ → Kind
 kindAt k = getD kinds k noKind

@@ -4,8 +4,8 @@ use mathlib.Core.Bool.{Bool, true, false, not, _||_, _&&_}
 use mathlib.Core.List.{List, [], _∷_}
 use lib.ListN.{length, getD}
 use lib.Dec.{leb, ltb, eqb}
-use lib.Ieee.{Float, lt}
-use Rattle.scalar.specs.Arith.{f32}
+use lib.Ieee.{Float, neg, lt}
+use Rattle.scalar.specs.Arith.{f32, f7}
 use Rattle.scalar.specs.Scalar.{outside}
 use Rattle.vector.specs.Vector.{lengthSquaredOf}
 use Rattle.vector.specs.Rotation.{normSquaredOf}
@@ -23,6 +23,14 @@ misfit j = not (kindOf j .fits (flag 3 j) (flag 4 j) (motored j))
 -- document 02, point 5: a dominance is set (of an anchored body this is 6)
 abbrev pub dominant : List ℕ → Bool
 dominant b = not (eqb (at 4 b) 0)
+
+-- a limit's min, number k, or its max is over 7 in size
+abbrev pub wide : ℕ → List ℕ → Bool
+wide k j = outside (float j k) (neg f7) f7 || outside (float j (k + 1)) (neg f7) f7
+
+-- an angle limit is; one without use is zero, by 6
+abbrev pub tooWide : List ℕ → Bool
+tooWide j = kindOf j .angles && (wide 28 j || wide 30 j)
 
 -- a limit's min, number k, is above its max
 abbrev pub reversed : ℕ → List ℕ → Bool
@@ -61,6 +69,7 @@ recordChecks e c =
     refuse 6 (unusedSet (e .header) (c .header) || any (unusedSet body) (c .bodies) || any (λ j. unusedSet (e .joint) j || misfit j) (c .joints))
     ∷ refuse 17 (any dominant (c .bodies))
     ∷ refuse 7 (outOfRange (e .header) (c .header) || any (outOfRange body) (c .bodies) || any (outOfRange (e .joint)) (c .joints))
+    ∷ refuse 19 (any tooWide (c .joints))
     ∷ refuse 8 (any (λ j. reversed 28 j || reversed 30 j) (c .joints))
     ∷ refuse 9 (any (λ b. offUnit (normSquaredOf (quat b 9))) (c .bodies) || any offAxis (c .joints))
     ∷ refuse 10 (any (λ j. wrongPair (c .bodies) (at 1 j) (at 2 j)) (c .joints))

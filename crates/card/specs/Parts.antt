@@ -3,8 +3,8 @@ use Prim.Native.Nat.{ℕ, zero, suc, _+_, _*_}
 use mathlib.Core.Bool.{Bool, false, not, _||_, _&&_}
 use mathlib.Core.List.{List, []}
 use lib.Dec.{eqb, ltb}
-use lib.Ieee.{Float, lt}
-use Rattle.scalar.specs.Arith.{f32}
+use lib.Ieee.{Float, neg, lt}
+use Rattle.scalar.specs.Arith.{f32, f7}
 use Rattle.scalar.specs.Scalar.{outside}
 use Rattle.vector.specs.Vector.{lengthSquaredOf}
 use Rattle.vector.specs.Rotation.{normSquaredOf}
@@ -17,7 +17,7 @@ use Rattle.card.specs.declared.records.JointBits.{JointBits}
 use Rattle.card.specs.declared.checks.Faults.{Faults}
 use Rattle.card.specs.Format.{bitsAt, Cell, numbersAt, recordsAt, anyCell, unusedSet, outOf}
 use Rattle.card.specs.Card.{at, flag, header, body, kindAt, joint, Edition, edition, Card, quat}
-use Rattle.card.specs.Checks.{any, misfit, dominant, reversed, offUnit, offAxis, wrongPair}
+use Rattle.card.specs.Checks.{any, misfit, dominant, tooWide, reversed, offUnit, offAxis, wrongPair}
 
 -- the records of edition 1
 abbrev pub header1 : List Cell
@@ -51,6 +51,9 @@ vec3At part at = record { x = floatAt part at; y = floatAt part (at + 4); z = fl
 unfoldable pub quatAt : List ℕ → ℕ → Quat
 quatAt part at = record { x = floatAt part at; y = floatAt part (at + 4); z = floatAt part (at + 8); w = floatAt part (at + 12) }
 
+unfoldable pub wideAt : List ℕ → ℕ → Bool
+wideAt part at = outside (floatAt part at) (neg f7) f7 || outside (floatAt part (at + 4)) (neg f7) f7
+
 unfoldable pub limitAt : List ℕ → ℕ → Bool
 limitAt part at = lt (floatAt part (at + 4)) (floatAt part at)
 
@@ -70,13 +73,13 @@ unfoldable pub jointBits : List ℕ → JointBits
 jointBits ns =
     record { kind = at 0 ns; body1 = at 1 ns; body2 = at 2 ns; first = flag 3 ns; second = flag 4 ns; motor = at 5 ns; zero = at 6 ns }
 
-abbrev pub kindWith : Bool → Bool → ℕ → Bool → JointKind
-kindWith b a c f = record { bases = b; axis = a; compliances = c; fits = f }
+abbrev pub kindWith : Bool → Bool → Bool → ℕ → Bool → JointKind
+kindWith b a g c f = record { bases = b; axis = a; angles = g; compliances = c; fits = f }
 
 unfoldable pub kindFor : ℕ → Bool → Bool → Bool → JointKind
 kindFor k first second motor =
     let r = kindAt k in
-    kindWith (r .bases) (r .axis) (r .compliances) (r .fits first second motor)
+    kindWith (r .bases) (r .axis) (r .angles) (r .compliances) (r .fits first second motor)
 
 unfoldable pub anyTo : (ℕ → Bool) → ℕ → Bool
 anyTo p zero = false
@@ -92,31 +95,31 @@ setAt part at n = not (eqb (wordAt part at n) 0)
 unfoldable pub outsideAt : List ℕ → Float → Float → ℕ → ℕ → Bool
 outsideAt part low high at n = outside (f32 (wordAt part at n)) low high
 
-abbrev pub faults : Bool → Bool → Bool → Bool → Bool → Faults
-faults b d f l n = record { bits = b; dominance = d; floats = f; limits = l; norms = n }
+abbrev pub faults : Bool → Bool → Bool → Bool → Bool → Bool → Faults
+faults b d f g l n = record { bits = b; dominance = d; floats = f; angles = g; limits = l; norms = n }
 
 unfoldable pub orFaults : Faults → Faults → Faults
-orFaults a b = faults (a .bits || b .bits) (a .dominance || b .dominance) (a .floats || b .floats) (a .limits || b .limits) (a .norms || b .norms)
+orFaults a b = faults (a .bits || b .bits) (a .dominance || b .dominance) (a .floats || b .floats) (a .angles || b .angles) (a .limits || b .limits) (a .norms || b .norms)
 
 unfoldable pub fieldFaults : Faults → List ℕ → Bool → Float → Float → ℕ → ℕ → Faults
 fieldFaults f part used low high at count =
-    faults (f .bits || anyTo (λ n. not used && setAt part at n) count) (f .dominance) (f .floats || anyTo (λ n. outsideAt part low high at n && used) count) (f .limits) (f .norms)
+    faults (f .bits || anyTo (λ n. not used && setAt part at n) count) (f .dominance) (f .floats || anyTo (λ n. outsideAt part low high at n && used) count) (f .angles) (f .limits) (f .norms)
 
 -- a number that has use is out of range: what is left of check 7 once check 6 has passed
 abbrev pub usedOut : List Cell → List ℕ → Bool
 usedOut cs ns = anyCell (λ c n. outOf (c .range) n && c .used ns) cs ns
 
 unfoldable pub headerFaults : List ℕ → Faults
-headerFaults ns = faults (unusedSet header1 ns) false (usedOut header1 ns) false false
+headerFaults ns = faults (unusedSet header1 ns) false (usedOut header1 ns) false false false
 
 unfoldable pub bodyFaults : List ℕ → Faults
-bodyFaults ns = faults (unusedSet body ns) (dominant ns) (usedOut body ns) false (offUnit (normSquaredOf (quat ns 9)))
+bodyFaults ns = faults (unusedSet body ns) (dominant ns) (usedOut body ns) false false (offUnit (normSquaredOf (quat ns 9)))
 
 unfoldable pub jointFaults : List ℕ → Faults
-jointFaults ns = faults (unusedSet joint1 ns || misfit ns) false (usedOut joint1 ns) (reversed 28 ns || reversed 30 ns) (offAxis ns)
+jointFaults ns = faults (unusedSet joint1 ns || misfit ns) false (usedOut joint1 ns) (tooWide ns) (reversed 28 ns || reversed 30 ns) (offAxis ns)
 
 unfoldable pub faultsOf : (List ℕ → Faults) → List (List ℕ) → Faults
-faultsOf f l = faults (any (λ r. f r .bits) l) (any (λ r. f r .dominance) l) (any (λ r. f r .floats) l) (any (λ r. f r .limits) l) (any (λ r. f r .norms) l)
+faultsOf f l = faults (any (λ r. f r .bits) l) (any (λ r. f r .dominance) l) (any (λ r. f r .floats) l) (any (λ r. f r .angles) l) (any (λ r. f r .limits) l) (any (λ r. f r .norms) l)
 
 unfoldable pub pairOf : List (List ℕ) → List ℕ → Bool
 pairOf bodies j = wrongPair bodies (at 1 j) (at 2 j)

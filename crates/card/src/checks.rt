@@ -8,7 +8,7 @@ ghost use Rattle.card.specs.Format.{numbersAt, recordsAt};
 ghost use Rattle.card.specs.Card.{body};
 ghost use Rattle.card.specs.Answer.{numberOf};
 ghost use Rattle.card.specs.Checks.{any, offUnit, wrongPair, firstOf, recordChecks, checkOf};
-ghost use Rattle.card.specs.Parts.{header1, joint1, row1, card1, countsFault, rateFault, anyTo, setAt, outsideAt, orFaults, fieldFaults, headerFaults, bodyFaults, jointFaults, faultsOf, limitAt, normsAt, pairOf};
+ghost use Rattle.card.specs.Parts.{header1, joint1, row1, card1, countsFault, rateFault, anyTo, setAt, outsideAt, orFaults, fieldFaults, headerFaults, bodyFaults, jointFaults, faultsOf, wideAt, limitAt, normsAt, pairOf};
 use crate::answer::Answer;
 use crate::bits::bits8_at;
 use crate::bits::bits32_at;
@@ -38,6 +38,7 @@ use crate::layout::POSITION;
 use crate::layout::ROTATION;
 use crate::layout::SLOWEST;
 use crate::layout::WARM_COEFFICIENT;
+use crate::layout::WIDEST_ANGLE;
 use crate::records::body_bits;
 use crate::records::header_bits;
 use crate::records::joint_bits;
@@ -84,6 +85,8 @@ pub struct Faults {
     pub dominance: bool,
     // 7
     pub floats: bool,
+    // 19
+    pub angles: bool,
     // 8
     pub limits: bool,
     // 9
@@ -98,6 +101,7 @@ impl Faults {
             bits: self.bits | other.bits,
             dominance: self.dominance | other.dominance,
             floats: self.floats | other.floats,
+            angles: self.angles | other.angles,
             limits: self.limits | other.limits,
             norms: self.norms | other.norms,
         }
@@ -113,6 +117,7 @@ impl Faults {
                 bits: self.bits,
                 dominance: self.dominance,
                 floats: self.floats | any_outside(part, low, high, at, count),
+                angles: self.angles,
                 limits: self.limits,
                 norms: self.norms,
             };
@@ -121,6 +126,7 @@ impl Faults {
             bits: self.bits | any_set(part, at, count),
             dominance: self.dominance,
             floats: self.floats,
+            angles: self.angles,
             limits: self.limits,
             norms: self.norms,
         }
@@ -136,6 +142,7 @@ fn header_faults(part: &[u8]) -> Faults
         bits: h.zero != 0,
         dominance: false,
         floats: false,
+        angles: false,
         limits: false,
         norms: false,
     };
@@ -173,6 +180,7 @@ fn body_faults(part: &[u8]) -> Faults
         bits: b.anchored & (locked | (b.dominance != 0)) | (b.zero != 0),
         dominance: b.dominance != 0,
         floats: false,
+        angles: false,
         limits: false,
         norms: false,
     };
@@ -184,9 +192,20 @@ fn body_faults(part: &[u8]) -> Faults
         bits: g.bits,
         dominance: g.dominance,
         floats: g.floats,
+        angles: false,
         limits: false,
         norms: rotation_fault(quat_at(part, ROTATION)),
     }
+}
+
+// Whether the min at a place or the max behind it is over the largest angle in size.
+fn wide_fault(part: &[u8], at: usize) -> bool
+    requires { ⌜ at + 8 ≤ length (now part) ⌝ }
+    ensures { λ r. ⌜ r ≡ wideAt (now (part .entry)) at ⌝ }
+{
+    let min = float_at(part, at);
+    let max = float_at(part, at + 4);
+    outside(min, -WIDEST_ANGLE, WIDEST_ANGLE) | outside(max, -WIDEST_ANGLE, WIDEST_ANGLE)
 }
 
 // Whether the min at a place is above the max behind it.
@@ -218,6 +237,7 @@ fn joint_faults(part: &[u8]) -> Faults
         bits: b.zero != 0,
         dominance: false,
         floats: false,
+        angles: false,
         limits: false,
         norms: false,
     };
@@ -238,6 +258,7 @@ fn joint_faults(part: &[u8]) -> Faults
         bits: g.bits | !kind.fits,
         dominance: false,
         floats: g.floats,
+        angles: kind.angles & (wide_fault(part, LIMIT1) | wide_fault(part, LIMIT2)),
         limits: limit_fault(part, LIMIT1) | limit_fault(part, LIMIT2),
         norms: norms_fault(part, kind.bases, kind.axis),
     }
@@ -252,6 +273,7 @@ fn bodies_faults(card: &[u8], at: usize, count: usize) -> Faults
         bits: false,
         dominance: false,
         floats: false,
+        angles: false,
         limits: false,
         norms: false,
     };
@@ -275,6 +297,7 @@ fn joints_faults(card: &[u8], at: usize, count: usize) -> Faults
         bits: false,
         dominance: false,
         floats: false,
+        angles: false,
         limits: false,
         norms: false,
     };
@@ -360,6 +383,9 @@ fn check_records(card: &[u8], bodies: usize, joints: usize) -> Answer
     }
     if h.floats | b.floats | j.floats {
         return Answer::FloatOutOfRange;
+    }
+    if j.angles {
+        return Answer::AngleLimit;
     }
     if j.limits {
         return Answer::LimitOrder;

@@ -5,17 +5,20 @@ ghost use Rattle.card.specs.Parts.{kindWith, kindFor};
 pub struct JointKind {
     pub bases: bool,
     pub axis: bool,
+    // Whether its limits are angles.
+    pub angles: bool,
     pub compliances: u32,
     // Whether its limit and motor bits fit.
     pub fits: bool,
 }
 
-fn kind_with(bases: bool, axis: bool, compliances: u32, fits: bool) -> JointKind
-    ensures { λ r. ⌜ r ≡ kindWith bases axis compliances fits ⌝ }
+fn kind_with(bases: bool, axis: bool, angles: bool, compliances: u32, fits: bool) -> JointKind
+    ensures { λ r. ⌜ r ≡ kindWith bases axis angles compliances fits ⌝ }
 {
     JointKind {
         bases,
         axis,
+        angles,
         compliances,
         fits,
     }
@@ -27,15 +30,15 @@ pub fn kind_of(kind: u32, first: bool, second: bool, motor: bool) -> JointKind
 {
     match kind {
         // fixed
-        0 => kind_with(true, false, 2, !first & !second & !motor),
+        0 => kind_with(true, false, false, 2, !first & !second & !motor),
         // hinge
-        1 => kind_with(true, true, 3, !second),
+        1 => kind_with(true, true, true, 3, !second),
         // slide
-        2 => kind_with(true, true, 2, !second),
+        2 => kind_with(true, true, false, 2, !second),
         // ball
-        3 => kind_with(true, true, 3, !motor),
+        3 => kind_with(true, true, true, 3, !motor),
         // tether
-        4 => kind_with(false, false, 1, first & !second & !motor),
-        5.. => kind_with(false, false, 0, false),
+        4 => kind_with(false, false, false, 1, first & !second & !motor),
+        5.. => kind_with(false, false, false, 0, false),
     }
 }

@@ -47,3 +47,6 @@ pub const MOTOR: usize = 103;
 
 // The largest float of a card but a cap.
 pub const BOUND: f32 = 1024.0;
+
+// The largest size of an angle limit.
+pub const WIDEST_ANGLE: f32 = 7.0;

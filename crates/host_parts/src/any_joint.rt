@@ -4,6 +4,7 @@
 // and 95 numbers: the joint's 30 in the card's order, two poses (20), the last tick's motor total (3), two bodies (26), two inertias (14), the warm
 // coefficient and dt.
 use crate::corrections::put_point;
+use crate::limits::angle_limit;
 use crate::limits::angular_motor;
 use crate::limits::linear_motor;
 use crate::slices::inertia;
@@ -18,8 +19,6 @@ use crate::slices::quat;
 use crate::slices::rigid_body;
 use crate::slices::solver_body;
 use crate::slices::vec3;
-use joints::AngleLimit;
-use joints::AngleLimitOption;
 use joints::DistanceLimit;
 use joints::DistanceLimitOption;
 use joints::Joint;
@@ -45,19 +44,7 @@ use xpbd_joints::prismatic::PrismaticJointSolverData;
 use xpbd_joints::revolute::RevoluteJointSolverData;
 use xpbd_joints::spherical::SphericalJointSolverData;
 ghost use Prim.Native.Nat.{_<_};
-
-fn angle_limit(limited: bool, input: &[f32], i: usize) -> AngleLimitOption
-    requires { ⌜ i < 4000 ⌝ }
-{
-    if limited {
-        AngleLimitOption::Limited(AngleLimit {
-            min: number(input, i),
-            max: number(input, i + 1),
-        })
-    } else {
-        AngleLimitOption::Unlimited
-    }
-}
+ghost use Rattle.joints.specs.Reach.{InReach, IfLimited, EachAngleLimit};
 
 fn distance_limit(limited: bool, input: &[f32], i: usize) -> DistanceLimitOption
     requires { ⌜ i < 4000 ⌝ }
@@ -95,7 +82,9 @@ fn fixed(input: &[f32]) -> FixedJoint {
     }
 }
 
-fn revolute(input: &[f32], limited: bool, motor: u32) -> RevoluteJoint {
+fn revolute(input: &[f32], limited: bool, motor: u32) -> RevoluteJoint
+    ensures { λ r. ⌜ IfLimited InReach (r .«angle_limit») ⌝ }
+{
     RevoluteJoint {
         frame1: frame1(input),
         frame2: frame2(input),
@@ -120,7 +109,9 @@ fn prismatic(input: &[f32], limited: bool, motor: u32) -> PrismaticJoint {
     }
 }
 
-fn spherical(input: &[f32], swing_limited: bool, twist_limited: bool) -> SphericalJoint {
+fn spherical(input: &[f32], swing_limited: bool, twist_limited: bool) -> SphericalJoint
+    ensures { λ r. ⌜ IfLimited InReach (r .«swing_limit») × IfLimited InReach (r .«twist_limit») ⌝ }
+{
     SphericalJoint {
         frame1: frame1(input),
         frame2: frame2(input),
@@ -146,7 +137,9 @@ fn distance(input: &[f32]) -> DistanceJoint {
 }
 
 // The card's kinds; any number above 4 is as 4.
-fn joint(kind: u32, limits: u32, motor: u32, input: &[f32]) -> Joint {
+fn joint(kind: u32, limits: u32, motor: u32, input: &[f32]) -> Joint
+    ensures { λ r. ⌜ EachAngleLimit InReach r ⌝ }
+{
     let first = limits % 2 == 1;
     let second = limits / 2 % 2 == 1;
     match kind {

@@ -5,12 +5,15 @@ use crate::slices::put_vec3;
 use crate::slices::vec3;
 use joints::AngleCorrection;
 use joints::AngleLimit;
+use joints::AngleLimitOption;
 use joints::DistanceLimit;
 use joints::motor::AngularMotor;
 use joints::motor::LinearMotor;
 use joints::motor::MotorLagrange;
 use joints::motor::MotorModel;
+use scalar::abs;
 ghost use Prim.Native.Nat.{_<_};
+ghost use Rattle.joints.specs.Reach.{InReach, IfLimited};
 
 // A limit, a separation, an axis (8) to the correction's direction and magnitude, and the correction along the axis (7).
 #[no_mangle]
@@ -46,7 +49,24 @@ fn put_angle_correction(output: &mut [f32], correction: AngleCorrection) {
     put_vec3(output, 1, v);
 }
 
-// A limit, a limit axis, two axes, the longest correction (12) to 1 and the correction, or to zeros (4).
+// A limit that is over 7 in size is none: no card has it.
+pub fn angle_limit(limited: bool, input: &[f32], i: usize) -> AngleLimitOption
+    requires { ⌜ i < 4000 ⌝ }
+    ensures { λ r. ⌜ IfLimited InReach r ⌝ }
+{
+    let min = number(input, i);
+    let max = number(input, i + 1);
+    if limited {
+        if abs(min) <= 7.0 {
+            if abs(max) <= 7.0 {
+                return AngleLimitOption::Limited(AngleLimit { min, max });
+            }
+        }
+    }
+    AngleLimitOption::Unlimited
+}
+
+// A limit, a limit axis, two axes, the longest correction (12) to 1 and the correction, or to zeros (4); 2 where the limit is over 7 in size.
 #[no_mangle]
 pub extern "C" fn linkage_angle_limit(input: &[f32], output: &mut [f32]) -> u32 {
     if input.len() != 12 {
@@ -55,9 +75,8 @@ pub extern "C" fn linkage_angle_limit(input: &[f32], output: &mut [f32]) -> u32 
     if output.len() != 4 {
         return 1;
     }
-    let limit = AngleLimit {
-        min: number(input, 0),
-        max: number(input, 1),
+    let AngleLimitOption::Limited(limit) = angle_limit(true, input, 0) else {
+        return 2;
     };
     let correction = limit.compute_correction(
         vec3(input, 2),

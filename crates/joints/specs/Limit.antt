@@ -1,11 +1,11 @@
 -- Limits of a distance and of an angle: Müller 2020, equation (25) and the algorithm for limited joint angles; the bound of 2^-23 and the longest correction are the Rust's. Definitions only.
-use mathlib.Core.Bool.{_||_}
+use mathlib.Core.Bool.{Bool, _||_}
 use lib.Ieee.{Float, lt, le}
 use Rattle.scalar.specs.Arith.{if_then_else_, _⊖_, f0, epsilon, pi, tau}
 use Rattle.scalar.specs.Scalar.{clampOf}
 use Rattle.trig.specs.Arctangent.{asinOf}
 use Rattle.vector.specs.Vector.{origin, negOf, scaleOf, divOf, dotOf, crossOf, lengthSquaredOf, lengthOf, clampLengthMax}
-use Rattle.vector.specs.Rotation.{turnOf, ofAxisAngle}
+use Rattle.vector.specs.Rotation.{turnOf, ofAngleInReach}
 use Rattle.vector.specs.declared.Vec3.{Vec3}
 use Rattle.joints.specs.declared.DistanceLimit.{DistanceLimit}
 use Rattle.joints.specs.declared.DistanceCorrection.{DistanceCorrection}
@@ -48,10 +48,17 @@ wrapped φ = if lt pi φ then φ ⊖ tau else φ
 unfoldable pub angleAbout : Vec3 → Vec3 → Vec3 → Float
 angleAbout n n₁ n₂ = wrapped (obtuse (asinOf (dotOf (crossOf n₁ n₂) n)) (dotOf n₁ n₂))
 
+-- φ is below min or above max
+abbrev pub outsideOf : AngleLimit → Float → Bool
+outsideOf l φ = lt φ (l .min) || lt (l .max) φ
+
+abbrev pub clamped : AngleLimit → Float → Float
+clamped l φ = clampOf φ (l .min) (l .max)
+
 -- the cross product of n₁, turned about n by φ clamped, and n₂, at most m long; none where φ keeps the limits or is a NaN
 unfoldable pub angleCorrection : AngleLimit → Vec3 → Vec3 → Vec3 → Float → AngleCorrection
 angleCorrection l n n₁ n₂ m =
     let φ = angleAbout n n₁ n₂ in
-    if lt φ (l .min) || lt (l .max) φ
-    then Some (clampLengthMax (crossOf (turnOf (ofAxisAngle n (clampOf φ (l .min) (l .max))) n₁) n₂) m)
+    if outsideOf l φ
+    then Some (clampLengthMax (crossOf (turnOf (ofAngleInReach n (clamped l φ)) n₁) n₂) m)
     else None

@@ -10,6 +10,7 @@ use vector::Quat;
 use vector::Vec3;
 ghost use mathlib.Core.Path.{_≡_};
 ghost use Rattle.joints.specs.Limit.{distanceCorrection, axisCorrection, obtuse, wrapped, angleAbout, angleCorrection};
+ghost use Rattle.joints.specs.Reach.{InReach};
 
 pub mod distance;
 pub mod fixed;
@@ -144,11 +145,12 @@ impl AngleLimit {
         axis2: Vec3,
         max_correction: f32,
     ) -> AngleCorrection
+        requires { ⌜ InReach self ⌝ }
         ensures { λ r. ⌜ r ≡ angleCorrection self «limit_axis» axis1 axis2 «max_correction» ⌝ }
     {
         let phi = angle_about(limit_axis, axis1, axis2);
         if phi < self.min || phi > self.max {
-            let rot = Quat::from_axis_angle(limit_axis, clamp(phi, self.min, self.max));
+            let rot = Quat::from_angle_in_reach(limit_axis, clamp(phi, self.min, self.max));
             return AngleCorrection::Some(
                 rot.mul_vec3(axis1)
                     .cross(axis2)

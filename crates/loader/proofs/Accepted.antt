@@ -11,7 +11,8 @@ use borrow.Author.Tests.{le-leb}
 use Rattle.scalar.specs.Arith.{_⊘_, f1}
 use Rattle.card.specs.declared.records.HeaderBits.{HeaderBits}
 use Rattle.card.specs.Format.{bitsAt, numbersAt, recordsAt}
-use Rattle.card.specs.Card.{at, body, cardOf}
+use Rattle.card.specs.Card.{at, body, kindOf, cardOf}
+use Rattle.card.specs.Accepted.{Narrow}
 use Rattle.card.specs.Checks.{checkOf}
 use Rattle.card.specs.Parts.{header1, joint1, headerBits, floatAt}
 use Rattle.card.proofs.Cut.{records-length, record-at}
@@ -62,13 +63,14 @@ module _ (card : List ℕ) (z : checkOf card ≡ 0) where
         let place : 8 * (12 + 94 * at 1 numbers) ≡ 96 + 752 * at 1 numbers = omega arith in
         rw (count .0, count .1, place, card-is card one) refl
 
-    -- a joint has a kind and ties bodies of the card
+    -- a joint has a kind, ties bodies of the card, and has angle limits within reach
     pub joint-fits : (j : ℕ) → j < h .joints
-        → let ns = numbersAt joint1 card (8 * (12 + 94 * h .bodies) + j * 984) in (at 0 ns < 5) × (at 1 ns < h .bodies) × (at 2 ns < h .bodies)
+        → let ns = numbersAt joint1 card (8 * (12 + 94 * h .bodies) + j * 984) in
+        (at 0 ns < 5) × (at 1 ns < h .bodies) × (at 2 ns < h .bodies) × (T (kindOf ns .angles) → Narrow 28 ns × Narrow 30 ns)
     joint-fits j r =
         let p = 8 * (12 + 94 * h .bodies) in
         let within : j < length (cardOf card .joints) = rw (joints-are, records-length joint1 card p (h .joints)) r in
         let has = accepted card z .has .joint j within in
         let here : getD (cardOf card .joints) j [] ≡ numbersAt joint1 card (p + j * 984) = rw joints-are (record-at joint1 card p (h .joints) j r) in
         let many : length (cardOf card .bodies) ≡ h .bodies = rw bodies-are (records-length body card 96 (h .bodies)) in
-        (rw here at (has .kind), rw (here, many) at (has .body1), rw (here, many) at (has .body2))
+        (rw here at (has .kind), rw (here, many) at (has .body1), rw (here, many) at (has .body2), rw here at (has .angles))

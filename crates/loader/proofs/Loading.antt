@@ -17,6 +17,7 @@ use Rattle.loader.specs.Parts.{bodyFloatsOf, jointFloatsOf, headerOf, bo
 use Rattle.loader.proofs.Accepted.{bodies-are, joints-are, joint-fits}
 use Rattle.loader.proofs.Records.{body-words-sized, body-floats-sized, joint-words-sized, joint-floats-sized}
 use Rattle.loader.proofs.Rows.{row-length, row-at, row-behind}
+use Rattle.loader.proofs.Reach.{in-reach}
 
 -- a record's words are enough for what is read of it
 body-same : (l : List ℕ) (p : ℕ) → let ns = numbersAt body l p in bodyIn (bodyWordsOf ns) (bodyFloatsOf ns) ≡ bodyOf ns
@@ -108,6 +109,7 @@ module _ (card : List ℕ) (h : Header) where
           kinds = λ j r. rw (joint-words j r) (joint-fits card z h e j r .0);
           first = λ j r. rw (joint-words j r) (joint-fits card z h e j r .1);
           second = λ j r. rw (joint-words j r) (joint-fits card z h e j r .2);
+          angles = λ j r. rw (joint-read j r) (in-reach card (jointPlace j) (joint-fits card z h e j r .3));
         }
 
     -- as the two loops leave them

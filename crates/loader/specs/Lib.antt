@@ -1,2 +1,3 @@
 pub mod Linkage
 pub mod Parts
+pub mod Reach

@@ -7,6 +7,7 @@ use lib.ListN.{length, getD, take, drop}
 use lib.IntN.{pos}
 use lib.Ieee.{Float, binary32, ofInt}
 use Rattle.scalar.specs.Arith.{_⊘_, f32, f1}
+use Rattle.joints.specs.Reach.{InReach, EachAngleLimit}
 use Rattle.joints.specs.declared.Joint.{Joint}
 use Rattle.joints.specs.declared.Joint.the-variants.{Fixed, Revolute, Prismatic, Spherical, Distance}
 use Rattle.numbers.specs.Lists.{each}
@@ -123,10 +124,11 @@ module _ (h : Header) (words : List ℕ) (floats : List Float) where
         joints = each jointAt (h .joints);
       }
 
-  -- slices of the counts' length, whose joints have a kind and tie bodies of the linkage
+  -- slices of the counts' length, whose joints have a kind, tie bodies of the linkage and have angle limits within reach
   pub record Loaded : Type 0 where
     pub words-length : length words ≡ wordsLength h
     pub floats-length : length floats ≡ floatsLength h
     pub kinds : (j : ℕ) → j < h .joints → at 0 (jointPartWords h words j) < 5
     pub first : (j : ℕ) → j < h .joints → at 1 (jointPartWords h words j) < h .bodies
     pub second : (j : ℕ) → j < h .joints → at 2 (jointPartWords h words j) < h .bodies
+    pub angles : (j : ℕ) → j < h .joints → EachAngleLimit InReach (jointAt j .joint)

@@ -3,6 +3,7 @@ use Rattle.root.proofs.Closest.{root-exact}
 use Rattle.series.proofs.Nearest.{nearest}
 use Rattle.series.proofs.Interpolation.{interpolation}
 use Rattle.trig.proofs.Accuracy.{accurate}
+use Rattle.loader.proofs.Reach.{limits-in-reach}
 use Rattle.tick.proofs.Examples as line
 use Rattle.tick.proofs.Dominance.{dominance-gone}
 use Rattle.examples.proofs.Examples as marked
@@ -22,4 +23,5 @@ promises =
       examples = marked.examples;
       line = line.examples;
       point-5 = dominance-gone;
+      point-8 = limits-in-reach;
     }

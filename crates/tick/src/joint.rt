@@ -1,6 +1,7 @@
 // A joint in a tick: its warm start and its solve by kind (src/dynamics/solver/xpbd/plugin.rs), and whether all numbers are finite.
 ghost use mathlib.Core.Path.{_≡_};
 ghost use Rattle.scalar.specs.Scalar.{isFinite};
+ghost use Rattle.joints.specs.Reach.{InReach, IfLimited, EachAngleLimit};
 ghost use Rattle.joints.specs.declared.Joint.the-variants as kind;
 ghost use Rattle.numbers.specs.Lists.{all};
 ghost use Rattle.state.specs.State.{totalsNumbers};
@@ -100,6 +101,7 @@ fn solve_revolute(
     inertia2: SolverBodyInertia,
     dt: f32,
 ) -> JointResult
+    requires { ⌜ IfLimited InReach (joint .«angle_limit») ⌝ }
     ensures { λ r. ⌜ r ≡ preparedWith (kind.Revolute joint) body1 body2 bodies inertia1 inertia2 dt ⌝ }
 {
     let prepared = revolute::prepare(joint, body1, body2);
@@ -171,6 +173,7 @@ fn solve_spherical(
     inertia2: SolverBodyInertia,
     dt: f32,
 ) -> JointResult
+    requires { ⌜ IfLimited InReach (joint .«swing_limit») × IfLimited InReach (joint .«twist_limit») ⌝ }
     ensures { λ r. ⌜ r ≡ preparedWith (kind.Spherical joint) body1 body2 bodies inertia1 inertia2 dt ⌝ }
 {
     let prepared = spherical::prepare(joint, body1, body2);
@@ -240,6 +243,7 @@ fn solve_by_kind(
     inertia2: SolverBodyInertia,
     dt: f32,
 ) -> JointResult
+    requires { ⌜ EachAngleLimit InReach joint ⌝ }
     ensures { λ r. ⌜ r ≡ preparedWith joint body1 body2 bodies inertia1 inertia2 dt ⌝ }
 {
     match joint {
@@ -347,6 +351,7 @@ pub fn solve_joint(
     inertia2: SolverBodyInertia,
     dt: f32,
 ) -> JointResult
+    requires { ⌜ EachAngleLimit InReach joint ⌝ }
     ensures { λ r. ⌜ r ≡ jointSolved joint body1 body2 bodies inertia1 inertia2 dt ⌝ }
 {
     tested(solve_by_kind(joint, body1, body2, bodies, inertia1, inertia2, dt))

@@ -12,7 +12,7 @@ use borrow.Author.Tests.{lt-ltb, le-ltb}
 use Rattle.scalar.specs.Arith.{f0}
 use Rattle.series.specs.Series.{sinTerm, cosTerm}
 use Rattle.scalar.specs.Scalar.{absOf}
-use Rattle.trig.specs.Sine.{scaledOf, phaseOf, stepOf, fractionOf, tableSine, sinSmall, cosSmall, sinOf, cosOf, sixteen, sixtyFourth}
+use Rattle.trig.specs.Sine.{scaledOf, phaseOf, stepOf, fractionOf, tableSine, sinSmall, cosSmall, sinInReach, cosInReach, sinOf, cosOf, sixteen, sixtyFourth}
 use Rattle.trig.specs.Accuracy.{SumsWithin, SinWithin, CosWithin}
 use Rattle.scalar.proofs.Sizes.{neg-neg}
 use Rattle.trig.proofs.SmallPowers.{small-size}
@@ -56,13 +56,13 @@ module _ (s : Bool) (m : ℕ) (e : ℤ) (f : T (fits binary32 (fin s m e))) (h :
   cosine-by false k = table.cosine-near m e (size-fits s m e f) h k
 
 pub sin-within : (a : Float) → T (fits binary32 a) → T (le (absOf a) sixteen) → SinWithin a (sinOf a)
-unfolding sinOf le lt ofBits
+unfolding sinOf sinInReach le lt ofBits
 sin-within nan f h = absurd h
 sin-within (inf s) f h = absurd h
 sin-within (fin s m e) f h = rw (is-true (le (fin false m e) sixteen) h) (sine-by s m e f h (lt (fin false m e) sixtyFourth) refl)
 
 pub cos-within : (a : Float) → T (fits binary32 a) → T (le (absOf a) sixteen) → CosWithin a (cosOf a)
-unfolding cosOf le lt ofBits
+unfolding cosOf cosInReach le lt ofBits
 cos-within nan f h = absurd h
 cos-within (inf s) f h = absurd h
 cos-within (fin s m e) f h = rw (is-true (le (fin false m e) sixteen) h) (cosine-by s m e f h (lt (fin false m e) sixtyFourth) refl)

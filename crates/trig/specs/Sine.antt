@@ -54,21 +54,27 @@ carried s =
 unfoldable pub tableSine : ℕ → ℕ → Float
 tableSine s f = overUnit (interpolated 65536 (carried s) (carried (s + 1)) f)
 
-unfoldable pub sinOf : Float → Float
-sinOf a =
+-- of a number that is at most 16 in size
+unfoldable pub sinInReach : Float → Float
+sinInReach a =
     let x = absOf a in
     let q = phaseOf (scaledOf x) in
     let r = tableSine (stepOf q) (fractionOf q) in
-    if not (le x sixteen) then nan
-    else if lt x sixtyFourth then sinSmall a
+    if lt x sixtyFourth then sinSmall a
     else if lt a f0 then neg r
     else r
 
 -- the cosine is 1,024 steps on
-unfoldable pub cosOf : Float → Float
-cosOf a =
+unfoldable pub cosInReach : Float → Float
+cosInReach a =
     let x = absOf a in
     let q = phaseOf (scaledOf x) in
-    if not (le x sixteen) then nan
-    else if lt x sixtyFourth then cosSmall a
+    if lt x sixtyFourth then cosSmall a
     else tableSine (stepOf q + 1024) (fractionOf q)
+
+-- and of any number
+unfoldable pub sinOf : Float → Float
+sinOf a = if not (le (absOf a) sixteen) then nan else sinInReach a
+
+unfoldable pub cosOf : Float → Float
+cosOf a = if not (le (absOf a) sixteen) then nan else cosInReach a

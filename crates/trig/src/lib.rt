@@ -8,7 +8,7 @@ ghost use lib.Ieee.{le, eq};
 ghost use Rattle.scalar.specs.Arith.{f0, f1};
 ghost use Rattle.scalar.specs.Scalar.{absOf, isFinite};
 ghost use Rattle.trig.specs.Interpolation.{interpolated, overUnit};
-ghost use Rattle.trig.specs.Sine.{sixteen, scaledOf, stepOf, fractionOf, tableSine, sinOf, cosOf};
+ghost use Rattle.trig.specs.Sine.{sixteen, scaledOf, stepOf, fractionOf, tableSine, sinInReach, cosInReach, sinOf, cosOf};
 ghost use Rattle.trig.specs.Arctangent.{atanAt, atanOf, quadrantAngle, halfPlaneAngle, angleOf, atan2Of, asinOf};
 ghost use Rattle.trig.specs.Parts.{signed, QuarterAt, Point};
 use root::sqrt;
@@ -111,28 +111,36 @@ fn table_sin_cos(q: u64) -> SinCos
     }
 }
 
+// Of an angle of at most 16 in size.
+pub fn sin_cos_in_reach(a: f32) -> SinCos
+    requires { ⌜ T (le (absOf a) sixteen) ⌝ }
+    ensures { λ r. ⌜ (r .sin ≡ sinInReach a) × (r .cos ≡ cosInReach a) ⌝ }
+{
+    let x = abs(a);
+    if x < SIXTY_FOURTH {
+        return SinCos {
+            sin: a - a * a * a / 6.0,
+            cos: 1.0 - a * a / 2.0,
+        };
+    }
+    // In 65,536ths of a step of π/2048: 8589934592 is 2^33, and 3373259426 is π·2^30 to the nearest.
+    let q = scaled(x) * 8589934592 / 3373259426;
+    // Two calls, so that the compiler keeps the table out of line and puts the small angles into each caller.
+    if a < 0.0 {
+        let w = table_sin_cos(q);
+        return SinCos {
+            sin: -w.sin,
+            cos: w.cos,
+        };
+    }
+    table_sin_cos(q)
+}
+
 pub fn sin_cos(a: f32) -> SinCos
     ensures { λ r. ⌜ (r .sin ≡ sinOf a) × (r .cos ≡ cosOf a) ⌝ }
 {
-    let x = abs(a);
-    if x <= 16.0 {
-        if x < SIXTY_FOURTH {
-            return SinCos {
-                sin: a - a * a * a / 6.0,
-                cos: 1.0 - a * a / 2.0,
-            };
-        }
-        // In 65,536ths of a step of π/2048: 8589934592 is 2^33, and 3373259426 is π·2^30 to the nearest.
-        let q = scaled(x) * 8589934592 / 3373259426;
-        // Two calls, so that the compiler keeps the table out of line and puts the small angles into each caller.
-        if a < 0.0 {
-            let w = table_sin_cos(q);
-            return SinCos {
-                sin: -w.sin,
-                cos: w.cos,
-            };
-        }
-        return table_sin_cos(q);
+    if abs(a) <= 16.0 {
+        return sin_cos_in_reach(a);
     }
     SinCos {
         sin: 0.0 / 0.0,

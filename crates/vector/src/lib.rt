@@ -3,11 +3,18 @@ use root::sqrt;
 use scalar::abs;
 use scalar::is_sign_negative;
 use scalar::max;
+use trig::SinCos;
 use trig::sin_cos;
+use trig::sin_cos_in_reach;
 ghost use mathlib.Core.Path.{_≡_};
+ghost use lib.Dec.{T};
+ghost use lib.Ieee.{le};
+ghost use Rattle.scalar.specs.Arith.{_⊗_, half};
+ghost use Rattle.scalar.specs.Scalar.{absOf};
+ghost use Rattle.trig.specs.Sine.{sixteen};
 ghost use Rattle.vector.specs.Vector.{addOf, subOf, negOf, scaleOf, timesOf, divOf, dotOf, crossOf, lengthSquaredOf, lengthOf, maxElement, clampLengthMax, signum, anyOrthonormal, anyOrthogonal};
 ghost use Rattle.vector.specs.Matrix.{tensorTimes, ofQuat, matrixTimes};
-ghost use Rattle.vector.specs.Rotation.{productOf, inverseOf, vectorPart, turnOf, normSquaredOf, normOf, dividedBy, normalized, ofAxisAngle, ofScaledAxis};
+ghost use Rattle.vector.specs.Rotation.{productOf, inverseOf, vectorPart, turnOf, normSquaredOf, normOf, dividedBy, normalized, ofHalf, ofAxisAngle, ofAngleInReach, ofScaledAxis};
 
 pub struct Vec3 {
     pub x: f32,
@@ -288,16 +295,30 @@ impl Quat {
         self.div(self.length())
     }
 
-    pub fn from_axis_angle(axis: Vec3, angle: f32) -> Quat
-        ensures { λ r. ⌜ r ≡ ofAxisAngle axis angle ⌝ }
+    // From the sine and the cosine of half an angle.
+    fn from_half(axis: Vec3, half_angle: SinCos) -> Quat
+        ensures { λ r. ⌜ r ≡ ofHalf axis («half_angle» .sin) («half_angle» .cos) ⌝ }
     {
-        let half_angle = sin_cos(angle * 0.5);
         Quat {
             x: axis.x * half_angle.sin,
             y: axis.y * half_angle.sin,
             z: axis.z * half_angle.sin,
             w: half_angle.cos,
         }
+    }
+
+    pub fn from_axis_angle(axis: Vec3, angle: f32) -> Quat
+        ensures { λ r. ⌜ r ≡ ofAxisAngle axis angle ⌝ }
+    {
+        Quat::from_half(axis, sin_cos(angle * 0.5))
+    }
+
+    // Where half the angle is at most 16 in size.
+    pub fn from_angle_in_reach(axis: Vec3, angle: f32) -> Quat
+        requires { ⌜ T (le (absOf (angle ⊗ half)) sixteen) ⌝ }
+        ensures { λ r. ⌜ r ≡ ofAngleInReach axis angle ⌝ }
+    {
+        Quat::from_half(axis, sin_cos_in_reach(angle * 0.5))
     }
 
     pub fn from_scaled_axis(v: Vec3) -> Quat

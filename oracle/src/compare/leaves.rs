@@ -513,7 +513,7 @@ fn angle_limit() -> Leaf {
             x.push(random.pick(&[math::PI, 2.0 * math::PI, 1.0 / 64.0, 0.001]));
             spoil(random, x)
         },
-        in_domain: |x| x[0] <= x[1],
+        in_domain: |x| x[0] <= x[1] && x[0].abs() <= 7.0 && x[1].abs() <= 7.0,
         oracle: |x| {
             let correction =
                 parts::angle_correction([x[0], x[1]], v3(x, 2), v3(x, 5), v3(x, 8), x[11]);
@@ -527,6 +527,8 @@ fn angle_limit() -> Leaf {
             let sine = math::dot(math::cross(first, second), axis);
             let finite = x.iter().all(|x| x.is_finite());
             let acute = math::dot(first, second) >= 0.0;
+            let widest = x[0] == 7.0 || x[1] == -7.0;
+            hits.look("angle: clamped to 7 in size", y[0] == 1.0 && widest);
             hits.look("angle: sine above 1 in size", finite && sine.abs() > 1.0);
             hits.look("angle obtuse", finite && !acute);
             hits.look("angle within", y[0] == 0.0 && finite && sine.abs() <= 1.0);

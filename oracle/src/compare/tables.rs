@@ -1,7 +1,9 @@
 //! Cards, runs and states: both tables' check, sizes, start, tick and run on the same bytes and numbers.
 
 use super::{in_hex, number_bytes, shrink, Difference, Hits, Table};
-use crate::card::{self, Card, BODY_NUMBERS, CAPACITY, JOINT_NUMBERS, KINDS};
+use crate::card::{
+    self, Card, BALL, BODY_NUMBERS, CAPACITY, HINGE, JOINT_NUMBERS, KINDS, SLIDE, TETHER,
+};
 use crate::generate::{self, Random};
 use crate::table::{self, Ran};
 
@@ -180,6 +182,42 @@ impl Tables {
         Ok(number)
     }
 
+    /// Limits about 7 in size and at 1,024, of each kind that may have them, in use and off; 19 comes before 8.
+    fn angle_limits(&self, hits: &mut Hits) -> Result<u64, Box<Difference>> {
+        let mut compared = 0;
+        for angle in [7.0, 7f32.next_up(), -7.0, -7f32.next_up(), 1024.0] {
+            for range in [[angle, angle], [0.0, angle], [angle, 0.0]] {
+                for (kind, second) in [
+                    (HINGE, false),
+                    (BALL, false),
+                    (BALL, true),
+                    (SLIDE, false),
+                    (TETHER, false),
+                ] {
+                    let wide = matches!(kind, HINGE | BALL) && angle.abs() > 7.0;
+                    let answers = if wide {
+                        19
+                    } else if range[0] > range[1] {
+                        8
+                    } else {
+                        0
+                    };
+                    for (used, answers) in [(true, answers), (false, 6)] {
+                        let bytes = generate::limited(kind, second, used, range);
+                        let number = self.card(&bytes, hits)?;
+                        let name = KINDS[kind as usize];
+                        hits.look(
+                            format!("limit {range:?} of a {name}, second {second}, used {used}"),
+                            number == answers,
+                        );
+                        compared += 1;
+                    }
+                }
+            }
+        }
+        Ok(compared)
+    }
+
     /// Bits flipped, floats and lengths at borders, random bytes, damage of one and two kinds, and valid cards.
     pub fn cards(&self, seed: u64, count: u64, hits: &mut Hits) -> Result<u64, Box<Difference>> {
         let mut compared = 0;
@@ -211,6 +249,7 @@ impl Tables {
                 compared += 1;
             }
         }
+        compared += self.angle_limits(hits)?;
         for length in 0..=LONGEST {
             let bytes = generate::random_bytes(&mut Random::of_case(seed, length as u64), length);
             self.card(&bytes, hits)?;

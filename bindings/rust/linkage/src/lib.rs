@@ -43,7 +43,7 @@ pub struct Card<'a> {
 }
 
 impl<'a> Card<'a> {
-    /// Refused by the card's own refusals: those up to 10, and 17.
+    /// Refused by the card's own refusals: those up to 10, 17 and 19.
     pub fn new(bytes: &'a [u8]) -> Result<Card<'a>, Refusal> {
         let mut card = Card {
             bytes,

@@ -21,6 +21,7 @@ pub enum Refusal {
     StateNumber,
     Stopped,
     Dominance,
+    AngleLimit,
     /// One that this version does not know.
     Unknown(u32),
 }
@@ -44,6 +45,7 @@ impl Refusal {
             12 => Refusal::StateNumber,
             13 => Refusal::Stopped,
             17 => Refusal::Dominance,
+            19 => Refusal::AngleLimit,
             _ => Refusal::Unknown(number),
         })
     }
@@ -64,6 +66,7 @@ impl Refusal {
             Refusal::StateNumber => 12,
             Refusal::Stopped => 13,
             Refusal::Dominance => 17,
+            Refusal::AngleLimit => 19,
             Refusal::Unknown(number) => number,
         }
     }
@@ -84,6 +87,7 @@ impl Refusal {
             Refusal::StateNumber => "a number of the state is not finite, or a body is too far out",
             Refusal::Stopped => "the tick would leave a number that is not finite, or a body too far out",
             Refusal::Dominance => "a body of the card has a dominance, which is no longer known: an anchored body is to take its place",
+            Refusal::AngleLimit => "an angle limit of a hinge or a ball is over 7 radians in size",
             Refusal::Unknown(_) => "an answer that this version does not know",
         }
     }

@@ -4,7 +4,7 @@ use borrow.Author.Needs.{needs}
 use Rattle.card.specs.Checks.{firstOf, recordChecks}
 use Rattle.card.specs.Parts.{row1, card1}
 use Rattle.card.proofs.Bools.{told}
-use Rattle.card.proofs.CheckRows.{row-6, row-17, row-7, row-8, row-9, row-10}
+use Rattle.card.proofs.CheckRows.{row-6, row-17, row-7, row-19, row-8, row-9, row-10}
 use Rattle.card.proofs.Checking.{First, none, applies, passes, first, behind}
 use Rattle.card.proofs.checks.check_records.Statement.{statement}
 use Rattle.card.proofs.checks.check_records.Tie as tie
@@ -34,15 +34,20 @@ past-7 c f =
     let j = c .before .before .before .before .before .before .before .before .before in
     past-17 (c .before .before .before .before) (passes (told (row-7 _ _ _ (j .before .before .header-faults .ensures) (j .before .bodies-faults .ensures) (j .joints-faults .ensures) (c .before .before .before .before .before .if1 .left)) (c .if3 .left)) f)
 
-past-8 : (c : tie.Else4) {n : ℕ} → Left 4 (c .before .before .before .before .before .before .before .before .before .before) n → Left 0 (c .before .before .before .before .before .before .before .before .before .before) n
-past-8 c f =
+past-19 : (c : tie.Else4) {n : ℕ} → Left 4 (c .before .before .before .before .before .before .before .before .before .before) n → Left 0 (c .before .before .before .before .before .before .before .before .before .before) n
+past-19 c f =
     let j = c .before .before .before .before .before .before .before .before .before .before in
-    past-7 (c .before) (passes (told (row-8 _ _ _ (j .before .before .header-faults .ensures) (j .before .bodies-faults .ensures) (j .joints-faults .ensures)) (c .if4 .left)) f)
+    past-7 (c .before) (passes (told (row-19 _ _ _ (j .before .before .header-faults .ensures) (j .before .bodies-faults .ensures) (j .joints-faults .ensures)) (c .if4 .left)) f)
 
-past-9 : (c : tie.Else5) {n : ℕ} → Left 5 (c .before .before .before .before .before .before .before .before .before .before .before .before .before) n → Left 0 (c .before .before .before .before .before .before .before .before .before .before .before .before .before) n
+past-8 : (c : tie.Else5) {n : ℕ} → Left 5 (c .before .before .before .before .before .before .before .before .before .before .before) n → Left 0 (c .before .before .before .before .before .before .before .before .before .before .before) n
+past-8 c f =
+    let j = c .before .before .before .before .before .before .before .before .before .before .before in
+    past-19 (c .before) (passes (told (row-8 _ _ _ (j .before .before .header-faults .ensures) (j .before .bodies-faults .ensures) (j .joints-faults .ensures)) (c .if5 .left)) f)
+
+past-9 : (c : tie.Else6) {n : ℕ} → Left 6 (c .before .before .before .before .before .before .before .before .before .before .before .before .before .before) n → Left 0 (c .before .before .before .before .before .before .before .before .before .before .before .before .before .before) n
 past-9 c f =
-    let j = c .before .before .before .before .before .before .before .before .before .before .before .before .before in
-    past-8 (c .before .before .before) (passes (told (row-9 _ _ _ (j .before .before .header-faults .ensures) (j .before .bodies-faults .ensures) (j .joints-faults .ensures)) (c .if5 .left)) f)
+    let j = c .before .before .before .before .before .before .before .before .before .before .before .before .before .before in
+    past-8 (c .before .before .before) (passes (told (row-9 _ _ _ (j .before .before .header-faults .ensures) (j .before .bodies-faults .ensures) (j .joints-faults .ensures)) (c .if6 .left)) f)
 
 returns : tie.Need-returns
 returns c = let j = c .before .before .before .before in all j (applies (told (row-6 _ _ _ (j .before .before .header-faults .ensures) (j .before .bodies-faults .ensures) (j .joints-faults .ensures)) (c .if1 .taken)))
@@ -60,22 +65,27 @@ returns-3 c =
 returns-4 : tie.Need-returns-4
 returns-4 c =
     let j = c .before .before .before .before .before .before .before .before .before .before in
-    all j (past-7 (c .before) (applies (told (row-8 _ _ _ (j .before .before .header-faults .ensures) (j .before .bodies-faults .ensures) (j .joints-faults .ensures)) (c .if4 .taken))))
+    all j (past-7 (c .before) (applies (told (row-19 _ _ _ (j .before .before .header-faults .ensures) (j .before .bodies-faults .ensures) (j .joints-faults .ensures)) (c .if4 .taken))))
 
 returns-5 : tie.Need-returns-5
 returns-5 c =
-    let j = c .before .before .before .before .before .before .before .before .before .before .before .before .before in
-    all j (past-8 (c .before .before .before) (applies (told (row-9 _ _ _ (j .before .before .header-faults .ensures) (j .before .bodies-faults .ensures) (j .joints-faults .ensures)) (c .if5 .taken))))
+    let j = c .before .before .before .before .before .before .before .before .before .before .before in
+    all j (past-19 (c .before) (applies (told (row-8 _ _ _ (j .before .before .header-faults .ensures) (j .before .bodies-faults .ensures) (j .joints-faults .ensures)) (c .if5 .taken))))
 
 returns-6 : tie.Need-returns-6
-returns-6 c = all (c .before .before .before .before .before .before .before .before .before .before .before .before .before .before .before) (past-9 (c .before .before) (applies (told (row-10 _ _ _ (c .before .any-pair-fault .ensures)) (c .if6 .taken))))
+returns-6 c =
+    let j = c .before .before .before .before .before .before .before .before .before .before .before .before .before .before in
+    all j (past-8 (c .before .before .before) (applies (told (row-9 _ _ _ (j .before .before .header-faults .ensures) (j .before .bodies-faults .ensures) (j .joints-faults .ensures)) (c .if6 .taken))))
 
 returns-7 : tie.Need-returns-7
-returns-7 c = all (c .before .before .before .before .before .before .before .before .before .before .before .before .before .before .before) (past-9 (c .before .before) (passes (told (row-10 _ _ _ (c .before .any-pair-fault .ensures)) (c .if6 .left)) none))
+returns-7 c = all (c .before .before .before .before .before .before .before .before .before .before .before .before .before .before .before .before) (past-9 (c .before .before) (applies (told (row-10 _ _ _ (c .before .any-pair-fault .ensures)) (c .if7 .taken))))
+
+returns-8 : tie.Need-returns-8
+returns-8 c = all (c .before .before .before .before .before .before .before .before .before .before .before .before .before .before .before .before) (past-9 (c .before .before) (passes (told (row-10 _ _ _ (c .before .any-pair-fault .ensures)) (c .if7 .left)) none))
 
 pub check-records-spec : {M : Type 1} → statement M
 check-records-spec =
     tie.close
     (tie.spec
     (λ c. search needs) (λ c. search needs) (λ c κs. search needs) (λ c κs. search needs) (λ c κs. search needs) returns
-    returns-2 returns-3 returns-4 returns-5 (λ c κs. search needs) returns-6 returns-7)
+    returns-2 returns-3 returns-4 returns-5 returns-6 (λ c κs. search needs) returns-7 returns-8)

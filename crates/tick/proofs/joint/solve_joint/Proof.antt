@@ -9,4 +9,4 @@ returns c =
     rw (tested-is (a .body1) (a .body2) (a .bodies) (a .inertia1) (a .inertia2) (a .dt) (a .joint)) (simp (c1 .solve-by-kind .ensures, c .tested .ensures))
 
 pub solve-joint-spec : {M : Type 1} → statement M
-solve-joint-spec = tie.close (tie.spec (λ _ _. tt) (λ _ _. tt) returns)
+solve-joint-spec = tie.close (tie.spec (λ c κs. c .pre) (λ _ _. tt) returns)

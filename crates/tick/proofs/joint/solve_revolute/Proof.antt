@@ -23,4 +23,4 @@ returns c =
     ))
 
 pub solve-revolute-spec : {M : Type 1} → statement M
-solve-revolute-spec = tie.close (tie.spec (λ _ _. tt) (λ _ _. tt) (λ _ _. tt) (λ _ _. tt) returns)
+solve-revolute-spec = tie.close (tie.spec (λ _ _. tt) (λ c κs. c .before .pre) (λ _ _. tt) (λ _ _. tt) returns)

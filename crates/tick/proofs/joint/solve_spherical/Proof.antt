@@ -22,4 +22,4 @@ returns c =
     ))
 
 pub solve-spherical-spec : {M : Type 1} → statement M
-solve-spherical-spec = tie.close (tie.spec (λ _ _. tt) (λ _ _. tt) (λ _ _. tt) (λ _ _. tt) returns)
+solve-spherical-spec = tie.close (tie.spec (λ _ _. tt) (λ c κs. c .before .pre) (λ _ _. tt) (λ _ _. tt) returns)

@@ -59,6 +59,13 @@ body-at-requires-2 c κs =
     let p = (c15 .pre) in
     (p .0, second-below (a .h) (a .words .now) (a .floats .now) (a .j) (p .1) (p .0) (c9 .second-body .ensures))
 
+solve-joint-requires : tie.Need-solve-joint-requires
+solve-joint-requires c κs =
+    let c5 = c .before .before .before .before .before in
+    let c7 = c5 .before .before in
+    let c16 = c7 .before .before .before .before .before .before .before .before .before in
+    rw (known-is (c5 .joint .given .1) (c7 .joint-at .ensures)) (c16 .pre .0 .angles (c16 .args .j) (c16 .pre .1))
+
 returns-2 : tie.Need-returns-2
 returns-2 c =
     let c1 = c .before in
@@ -88,4 +95,4 @@ solve-at-spec =
     tie.close
     (tie.spec
     (λ c κs. search needs) (λ c κs. search needs) solver-body-at-requires solver-body-at-requires-2 (λ c κs. search needs) (λ c. search needs) (λ c. search needs) returns
-    rigid-at-requires rigid-at-requires-2 body-at-requires body-at-requires-2 (λ _ _. tt) returns-2)
+    rigid-at-requires rigid-at-requires-2 body-at-requires body-at-requires-2 solve-joint-requires returns-2)

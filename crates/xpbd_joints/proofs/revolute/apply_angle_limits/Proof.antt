@@ -25,5 +25,8 @@ returns-2 c =
       c .apply-angle-correction .ensures,
     )
 
+compute-correction-requires : tie.Need-compute-correction-requires
+compute-correction-requires c κs = let n = c .before .before .before .before in rw (n .limit .given .1) at (n .before .before .pre)
+
 pub apply-angle-limits-spec : {M : Type 1} → statement M
-apply-angle-limits-spec = tie.close (tie.spec (λ c. search needs) (λ c. search needs) returns (λ _ _. tt) (λ _ _. tt) (λ _ _. tt) (λ _ _. tt) (λ _ _. tt) returns-2)
+apply-angle-limits-spec = tie.close (tie.spec (λ c. search needs) (λ c. search needs) returns (λ _ _. tt) (λ _ _. tt) (λ _ _. tt) compute-correction-requires (λ _ _. tt) returns-2)

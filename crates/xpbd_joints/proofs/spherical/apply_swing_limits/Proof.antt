@@ -23,5 +23,8 @@ returns-2 c =
       c .apply-angle-correction .ensures,
     )
 
+swing-correction-requires : tie.Need-swing-correction-requires
+swing-correction-requires c κs = let n = c .before .before .before in rw (n .limit .given .1) at (n .before .before .pre)
+
 pub apply-swing-limits-spec : {M : Type 1} → statement M
-apply-swing-limits-spec = tie.close (tie.spec (λ c. search needs) (λ c. search needs) returns (λ _ _. tt) (λ _ _. tt) (λ _ _. tt) (λ _ _. tt) returns-2)
+apply-swing-limits-spec = tie.close (tie.spec (λ c. search needs) (λ c. search needs) returns (λ _ _. tt) (λ _ _. tt) swing-correction-requires (λ _ _. tt) returns-2)

@@ -27,5 +27,8 @@ returns-2 c =
       c .apply-angle-correction .ensures,
     )
 
+twist-correction-requires : tie.Need-twist-correction-requires
+twist-correction-requires c κs = let n = c .before .before .before .before .before in rw (n .limit .given .1) at (n .before .before .pre)
+
 pub apply-twist-limits-spec : {M : Type 1} → statement M
-apply-twist-limits-spec = tie.close (tie.spec (λ c. search needs) (λ c. search needs) returns (λ _ _. tt) (λ _ _. tt) (λ _ _. tt) (λ _ _. tt) (λ _ _. tt) (λ _ _. tt) returns-2)
+apply-twist-limits-spec = tie.close (tie.spec (λ c. search needs) (λ c. search needs) returns (λ _ _. tt) (λ _ _. tt) (λ _ _. tt) (λ _ _. tt) twist-correction-requires (λ _ _. tt) returns-2)

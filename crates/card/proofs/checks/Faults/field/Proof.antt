@@ -11,7 +11,7 @@ use Rattle.card.proofs.checks.Faults.field.Statement.{statement}
 use Rattle.card.proofs.checks.Faults.field.Tie as tie
 
 module _ (f : Faults) (l : List ℕ) (low high : Float) (at count : ℕ) {used r : Bool} where
-  with-use : used ≡ true → r ≡ anyTo (outsideAt l low high at) count → faults (f .bits) (f .dominance) (f .floats || r) (f .limits) (f .norms) ≡ fieldFaults f l used low high at count
+  with-use : used ≡ true → r ≡ anyTo (outsideAt l low high at) count → faults (f .bits) (f .dominance) (f .floats || r) (f .angles) (f .limits) (f .norms) ≡ fieldFaults f l used low high at count
   unfolding fieldFaults
   with-use u e =
       rw (
@@ -22,7 +22,7 @@ module _ (f : Faults) (l : List ℕ) (low high : Float) (at count : ℕ) {used r
         or-false (f .bits),
       )
 
-  without-use : used ≡ false → r ≡ anyTo (setAt l at) count → faults (f .bits || r) (f .dominance) (f .floats) (f .limits) (f .norms) ≡ fieldFaults f l used low high at count
+  without-use : used ≡ false → r ≡ anyTo (setAt l at) count → faults (f .bits || r) (f .dominance) (f .floats) (f .angles) (f .limits) (f .norms) ≡ fieldFaults f l used low high at count
   unfolding fieldFaults
   without-use u e = rw (u, e, any-never (λ n. outsideAt l low high at n && false) (λ n. and-false (outsideAt l low high at n)) count, or-false (f .floats))
 
