@@ -342,6 +342,36 @@ pub fn rotation_about(axis: [f32; 3], angle: f32) -> [f32; 4] {
     [x, y, z, cos as f32]
 }
 
+/// Ends at a right angle and at both its neighbours, or at zero.
+pub fn right_angle_range(random: &mut Random) -> [f32; 2] {
+    use std::f32::consts::FRAC_PI_2;
+    let end = |random: &mut Random| {
+        random.pick(&[
+            FRAC_PI_2.next_down(),
+            FRAC_PI_2,
+            FRAC_PI_2.next_up(),
+            FRAC_PI_2,
+            0.0,
+        ])
+    };
+    [-end(random), end(random)]
+}
+
+/// Rotations of two bodies, a quarter turn about z apart, whose lengths make a hinge's arc sine 2·z·w·s⁴: the next above 1 in size, above it, far above it or
+/// infinite. A ball's swing has s², and the axes are apart where z is above w.
+fn quarter_turns(random: &mut Random) -> [[f32; 4]; 2] {
+    const ROOT_HALF: f32 = std::f32::consts::FRAC_1_SQRT_2;
+    let (s, w) = random.pick(&[
+        (1.0, ROOT_HALF),
+        (1.0, ROOT_HALF.next_up()),
+        (1.0, 0.75),
+        (1.0, 1000.0),
+        (1e8, 1e6),
+    ]);
+    let z = random.pick(&[w.next_down(), w, w.next_up()]) * random.sign();
+    [[0.0, 0.0, 0.0, s], [0.0, 0.0, z, w]]
+}
+
 pub(crate) fn product(a: [f32; 4], b: [f32; 4]) -> [f32; 4] {
     let [ax, ay, az, aw] = a.map(f64::from);
     let [bx, by, bz, bw] = b.map(f64::from);
@@ -714,6 +744,7 @@ pub fn joint_case(random: &mut Random) -> JointCase {
             case.pose2.rotation[3] = case.pose2.rotation[3].max(0.5);
         }
         4 => at_threshold(random, &mut case),
+        5 if matches!(kind, HINGE | BALL) => at_right_angle(random, &mut case),
         // Some numbers are anything at all.
         2 | 3 => {
             let mut numbers = case.numbers();
@@ -776,6 +807,35 @@ fn at_threshold(random: &mut Random, case: &mut JointCase) {
             }
         }
     }
+}
+
+/// A hinge, or a ball with one of its limits, of two bodies on one place and a quarter turn apart.
+fn at_right_angle(random: &mut Random, case: &mut JointCase) {
+    let range = right_angle_range(random);
+    let twists = case.joint.kind == BALL && random.one_in(2);
+    case.joint = Joint {
+        compliances: case.joint.compliances,
+        ..Joint::plain(case.joint.kind, 0, 1)
+    };
+    let place = Pose {
+        position: [0.0; 3],
+        rotation: random.rotation(),
+        center_of_mass: [0.0; 3],
+    };
+    (case.pose1, case.pose2) = (place, place);
+    (case.motion1, case.motion2) = (Motion::DUMMY, Motion::DUMMY);
+    if twists {
+        // About the swing axis, in any direction: the twist's axes are made unit, and the sine is above 1 by rounding alone.
+        (case.joint.limit2, case.joint.limit2_range) = (true, range);
+        let quarter = std::f32::consts::FRAC_PI_2 * random.sign();
+        let turn = rotation_about([0.0, 1.0, 0.0], quarter);
+        case.pose2.rotation = product(place.rotation, turn);
+        return;
+    }
+    (case.joint.limit1, case.joint.limit1_range) = (true, range);
+    case.pose1.rotation = [0.0, 0.0, 0.0, 1.0];
+    case.pose2.rotation = case.pose1.rotation;
+    [case.motion1.delta_rotation, case.motion2.delta_rotation] = quarter_turns(random);
 }
 
 // ---------------------------------------------------------------------------------------------------------------------------------- cards
@@ -993,6 +1053,61 @@ pub fn pair(random: &mut Random) -> Card {
         if card::check(&card.encode()).is_ok() {
             return card;
         }
+    }
+}
+
+/// A hinge or a ball of two bodies at rest on one place, with a limit at a right angle, and a state in which they are a quarter turn apart and not of unit
+/// length.
+pub fn right_angle(random: &mut Random) -> (Card, Vec<f32>) {
+    let mut card = header(random);
+    card.gravity = 0.0;
+    card.bodies = vec![Body::UNIT; 2];
+    let held = random.below(3);
+    if held < 2 {
+        card.bodies[held] = Body::ANCHORED;
+    }
+    card.joints = vec![Joint {
+        limit1: true,
+        limit1_range: right_angle_range(random),
+        ..Joint::plain(random.pick(&[HINGE, BALL]), 0, 1)
+    }];
+    let mut state = table::start_state(&card);
+    for (i, rotation) in quarter_turns(random).into_iter().enumerate() {
+        state[BODY_NUMBERS * i + 3..BODY_NUMBERS * i + 7].copy_from_slice(&rotation);
+    }
+    (card, state)
+}
+
+/// A bar of 1 m and 1 kg on a hinge or a ball of the frame, let go 1.2 radians from the upright: it falls to the level and rests there, on a stop of about a
+/// right angle. The bases are turned by 1.1 radians, so that no axis is along a coordinate.
+pub fn held(kind: u32, stop: f32) -> Card {
+    let about_z = |angle| rotation_about([0.0, 0.0, 1.0], angle);
+    let (sine, cosine) = 1.2f64.sin_cos();
+    let bar = Body {
+        position: [(0.5 * sine) as f32, (0.5 * cosine) as f32, 0.0],
+        rotation: about_z(-1.2),
+        inv_inertia: [12.0, 0.0, 0.0, 12.0, 0.0, 12.0],
+        ..Body::UNIT
+    };
+    let joint = Joint {
+        limit1: true,
+        limit1_range: match kind {
+            HINGE => [-stop, 0.0],
+            _ => [0.0, stop],
+        },
+        anchor2: [0.0, -0.5, 0.0],
+        basis1: about_z(1.1),
+        basis2: about_z(1.1),
+        ..Joint::plain(kind, 0, 1)
+    };
+    Card {
+        edition: 1,
+        rate: 500,
+        zero: 0,
+        gravity: -9.81,
+        warm_coefficient: 0.0,
+        bodies: vec![Body::ANCHORED, bar],
+        joints: vec![joint],
     }
 }
 

@@ -11,5 +11,6 @@ pub mod parts;
 pub mod solver;
 pub mod table;
 
+pub use bevy_math::above_one;
 /// Document 01, 'Arithmetic beneath', over plain arrays.
 pub use bevy_math::arithmetic as math;

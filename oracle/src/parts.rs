@@ -459,17 +459,20 @@ mod tests {
         assert_eq!(angle_correction([-2.0, 2.0], z, x, y, 4.0), None);
         let [cx, cy, cz] = angle_correction([-1.0, 1.0], z, x, y, 4.0).unwrap();
         assert!(cx == 0.0 && cy == 0.0 && (cz - 1f32.cos()).abs() < 1e-6);
-        // The sine of the angle is above 1: NaN, and the limit is skipped.
-        assert_eq!(
-            angle_correction(
-                [-1.0, 1.0],
-                z,
-                [1.0, 0.0, 0.0],
-                [0.0, 1f32.next_up(), 0.0],
-                4.0
-            ),
-            None
-        );
+        // A sine above 1 in size is a right angle's; an infinite one is NaN, and the limit is skipped.
+        let right = std::f32::consts::FRAC_PI_2;
+        let corrects = |range, to| angle_correction(range, z, x, to, 4.0).is_some();
+        for sine in [1f32.next_up(), 1.5, 1e30] {
+            assert!(corrects([-1.0, 1.0], [0.0, sine, 0.0]));
+            assert!(!corrects([-right, right], [0.0, sine, 0.0]));
+            assert!(corrects([-right, right.next_down()], [0.0, sine, 0.0]));
+            // With the axes apart -π/2 goes by 3π/2 to one step below itself.
+            assert!(!corrects([-right, right], [0.5, -sine, 0.0]));
+            assert!(corrects([-right, right], [-0.5, -sine, 0.0]));
+            assert!(!corrects([-right.next_up(), right], [-0.5, -sine, 0.0]));
+        }
+        let (far1, far2) = ([1e20, 0.0, 0.0], [0.0, 1e20, 0.0]);
+        assert_eq!(angle_correction([-1.0, 1.0], z, far1, far2, 4.0), None);
     }
 
     #[test]

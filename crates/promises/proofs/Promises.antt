@@ -4,6 +4,7 @@ use Rattle.series.proofs.Nearest.{nearest}
 use Rattle.series.proofs.Interpolation.{interpolation}
 use Rattle.trig.proofs.Accuracy.{accurate}
 use Rattle.loader.proofs.Reach.{limits-in-reach}
+use Rattle.joints.proofs.RightAngle.{right-angle}
 use Rattle.tick.proofs.Examples as line
 use Rattle.tick.proofs.Dominance.{dominance-gone}
 use Rattle.examples.proofs.Examples as marked
@@ -22,6 +23,7 @@ promises =
       sample = sample-holds;
       examples = marked.examples;
       line = line.examples;
+      point-2 = right-angle;
       point-5 = dominance-gone;
       point-8 = limits-in-reach;
     }

@@ -7,6 +7,7 @@ use Rattle.series.specs.Nearest.{Nearest}
 use Rattle.series.specs.Interpolation.{Interpolation}
 use Rattle.trig.specs.Accuracy.{Accurate}
 use Rattle.loader.specs.Reach.{LimitsInReach}
+use Rattle.joints.specs.RightAngle.{RightAngle}
 use Rattle.tick.specs.Examples as line
 use Rattle.tick.specs.Dominance.{DominanceGone}
 use Rattle.examples.specs.Examples as marked
@@ -24,5 +25,6 @@ pub record Promises : Type 0 where
   pub examples : marked.Examples
   pub line : line.Examples
   -- document 02, by its points
+  pub point-2 : RightAngle
   pub point-5 : DominanceGone
   pub point-8 : LimitsInReach

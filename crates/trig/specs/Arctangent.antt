@@ -54,5 +54,11 @@ atan2Of y x =
     else if eq y f0 && eq x f0 then f0
     else angleOf y x
 
+-- document 02, point 2: a finite number above 1 in size is read as 1 with its sign
+unfoldable pub withinOne : Float → Float
+withinOne v = if lt f1 (absOf v) && isFinite v then (if lt v f0 then neg f1 else f1) else v
+
 unfoldable pub asinOf : Float → Float
-asinOf v = atan2Of v (rootOf ((f1 ⊖ v) ⊗ (f1 ⊕ v)))
+asinOf v =
+    let u = withinOne v in
+    atan2Of u (rootOf ((f1 ⊖ u) ⊗ (f1 ⊕ u)))

@@ -9,7 +9,7 @@ ghost use Rattle.scalar.specs.Arith.{f0, f1};
 ghost use Rattle.scalar.specs.Scalar.{absOf, isFinite};
 ghost use Rattle.trig.specs.Interpolation.{interpolated, overUnit};
 ghost use Rattle.trig.specs.Sine.{sixteen, scaledOf, stepOf, fractionOf, tableSine, sinInReach, cosInReach, sinOf, cosOf};
-ghost use Rattle.trig.specs.Arctangent.{atanAt, atanOf, quadrantAngle, halfPlaneAngle, angleOf, atan2Of, asinOf};
+ghost use Rattle.trig.specs.Arctangent.{atanAt, atanOf, quadrantAngle, halfPlaneAngle, angleOf, atan2Of, withinOne, asinOf};
 ghost use Rattle.trig.specs.Parts.{signed, QuarterAt, Point};
 use root::sqrt;
 use scalar::PI;
@@ -232,8 +232,21 @@ pub fn atan2(y: f32, x: f32) -> f32
     angle(y, x)
 }
 
+// An arc sine's argument: a finite number above 1 in size is read as 1 with its sign.
+fn within_one(v: f32) -> f32
+    ensures { λ r. ⌜ r ≡ withinOne v ⌝ }
+{
+    if abs(v) > 1.0 {
+        if is_finite(v) {
+            return if v < 0.0 { -1.0 } else { 1.0 };
+        }
+    }
+    v
+}
+
 pub fn asin(v: f32) -> f32
     ensures { λ r. ⌜ r ≡ asinOf v ⌝ }
 {
-    atan2(v, sqrt((1.0 - v) * (1.0 + v)))
+    let u = within_one(v);
+    atan2(u, sqrt((1.0 - u) * (1.0 + u)))
 }

@@ -1,5 +1,6 @@
 //! The vector library beneath avian's joint code, under `bevy_math`'s names. Its operations are those of [`arithmetic`].
 
+pub mod above_one;
 pub mod arithmetic;
 
 use core::ops::{Add, AddAssign, Div, Mul, Neg, Sub, SubAssign};
@@ -19,6 +20,7 @@ impl ScalarArithmetic for f32 {
 
     #[inline]
     fn arc_sine(self) -> f32 {
+        above_one::note(self);
         arithmetic::asin(self)
     }
 

@@ -3,7 +3,8 @@
 //! Lengths are in metres, masses in kilograms, angles in radians. The linkages lie in the x-y plane, with gravity along -y; body 0 is the frame.
 
 use oracle::card::{Body, Card, Joint, BALL, HINGE, SLIDE, TETHER};
-use std::{env, fs, path::Path, process};
+use oracle::generate::held;
+use std::{env, f32::consts::FRAC_PI_2, fs, path::Path, process};
 
 type Point = [f64; 2];
 
@@ -202,6 +203,7 @@ fn main() {
         ("chebyshev", chebyshev()),
         ("tether", tether()),
         ("stop", stop()),
+        ("right_angle", held(HINGE, FRAC_PI_2)),
     ];
     for (name, card) in cards {
         let path = Path::new(&folder).join(format!("{name}.card"));

@@ -4,11 +4,13 @@
 //! first and as f32s.
 
 use super::{all_same, in_hex, number_bytes, shrink, Difference, Hits};
+use crate::above_one;
 use crate::card::{BALL, HINGE, KINDS, SLIDE, TETHER};
-use crate::generate::{joint_case, motion_numbers, ordered, JointCase, Random};
+use crate::generate::{joint_case, motion_numbers, ordered, right_angle_range, JointCase, Random};
 use crate::math;
 use crate::parts;
 use crate::solver::{self, Inertia, Model, Motion, Motor, Pose};
+use std::f32::consts::FRAC_PI_2;
 
 pub struct Leaf {
     pub name: &'static str,
@@ -277,12 +279,15 @@ fn arc_sine() -> Leaf {
             }]
         },
         oracle: |x| vec![math::asin(x[0])],
-        classes: |x, y, hits| {
+        classes: |x, _, hits| {
+            let size = x[0].abs();
+            hits.look("arc sine of 1 in size", size == 1.0);
+            hits.look("arc sine next above 1 in size", size == 1f32.next_up());
             hits.look(
-                "arc sine above 1 in size",
-                x[0].abs() > 1.0 && y[0].is_nan(),
+                "arc sine far above 1 in size",
+                size > 2.0 && size != f32::INFINITY,
             );
-            hits.look("arc sine of 1 in size", x[0].abs() == 1.0);
+            hits.look("arc sine of an infinity", size == f32::INFINITY);
         },
         ..LEAF
     }
@@ -486,11 +491,26 @@ fn distance_limit() -> Leaf {
     }
 }
 
+/// An angle limit's input whose sine, s·k, is next above 1 in size, above it, far above it or infinite, with axes of any length.
+fn right_angle(random: &mut Random) -> Vec<f32> {
+    let (s, k) = random.pick(&[(1.0, 1f32.next_up()), (1.0, 1.5), (1e3, 1e3), (1e20, 1e20)]);
+    let along = random.pick(&[0.0, -0.0, 1e-3, -1e-3]);
+    let mut x = right_angle_range(random).to_vec();
+    x.extend([0.0, 0.0, 1.0]);
+    x.extend([s, 0.0, 0.0]);
+    x.extend([along, k * random.pick(&[1.0, -1.0]), 0.0]);
+    x.push(math::PI);
+    x
+}
+
 fn angle_limit() -> Leaf {
     Leaf {
         name: "angle limit",
         parts: &[("is some", 1), ("correction", 3)],
         generate: |random| {
+            if random.one_in(8) {
+                return right_angle(random);
+            }
             let mut x = random.angle_range().to_vec();
             let axis = random.direction();
             let about = match random.below(4) {
@@ -529,7 +549,18 @@ fn angle_limit() -> Leaf {
             let acute = math::dot(first, second) >= 0.0;
             let widest = x[0] == 7.0 || x[1] == -7.0;
             hits.look("angle: clamped to 7 in size", y[0] == 1.0 && widest);
-            hits.look("angle: sine above 1 in size", finite && sine.abs() > 1.0);
+            let size = sine.abs();
+            let above = finite && size > 1.0 && size != f32::INFINITY;
+            hits.look("angle: sine next above 1", above && size == 1f32.next_up());
+            hits.look("angle: sine far above 1", above && size > 2.0);
+            hits.look("angle: sine infinite", finite && size == f32::INFINITY);
+            hits.look("angle: sine above 1, corrected", above && y[0] == 1.0);
+            hits.look("angle: sine above 1, within", above && y[0] == 0.0);
+            let apart = above && sine < 0.0 && !acute;
+            hits.look(
+                "angle: sine below -1, axes apart: below -π/2",
+                apart && x[0] == -FRAC_PI_2 && y[0] == 1.0,
+            );
             hits.look("angle obtuse", finite && !acute);
             hits.look("angle within", y[0] == 0.0 && finite && sine.abs() <= 1.0);
             if y[0] == 1.0 && finite {
@@ -1034,6 +1065,29 @@ fn finite_classes(kind: &str, of_finite: bool, y: &[f32], hits: &mut Hits) {
     );
 }
 
+/// Which arc sines above 1 in size a joint's one angle limit asks for. A swing's can't be infinite, nor a twist's far above 1: their axes are made unit.
+fn above_one_classes(case: &JointCase, turns: bool, hits: &mut Hits) {
+    let joint = &case.joint;
+    let limit = match (joint.kind, joint.limit1, joint.limit2) {
+        (HINGE, true, _) => "hinge",
+        (BALL, true, false) => "swing",
+        (BALL, false, true) => "twist",
+        _ => return,
+    };
+    let (_, above) = above_one::of(|| joint_answer(case));
+    let mut look = |what: &str, found| hits.look(format!("{limit}'s sine {what}"), found);
+    look("next above 1", above.next > 0);
+    if limit != "twist" {
+        look("far above 1", above.far > 0);
+    }
+    if limit == "hinge" {
+        look("infinite", above.infinite > 0);
+    }
+    let finite = above.all > above.infinite;
+    look("above 1, corrected", finite && turns);
+    look("above 1, not corrected", finite && !turns);
+}
+
 /// What a case reaches is seen by what becomes of the answer when a part is taken away.
 fn joint_classes(x: &[f32], y: &[f32], hits: &mut Hits) {
     let case = JointCase::of_numbers(x);
@@ -1100,6 +1154,10 @@ fn joint_classes(x: &[f32], y: &[f32], hits: &mut Hits) {
         off.joint.limit2 = false;
         let no_angle = all_same(&joint_answer(&never), &joint_answer(&off));
         hits.look("ball second limit skipped", no_angle);
+    }
+    if matches!(joint.kind, HINGE | BALL) {
+        let turns = differs(&|case| (case.joint.limit1, case.joint.limit2) = (false, false));
+        above_one_classes(&case, turns, hits);
     }
     if joint.kind == BALL {
         let (swing1, swing2) = (v3(y, 9), v3(y, 12));

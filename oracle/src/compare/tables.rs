@@ -1,11 +1,13 @@
 //! Cards, runs and states: both tables' check, sizes, start, tick and run on the same bytes and numbers.
 
 use super::{in_hex, number_bytes, shrink, Difference, Hits, Table};
+use crate::above_one::{self, AboveOne};
 use crate::card::{
     self, Card, BALL, BODY_NUMBERS, CAPACITY, HINGE, JOINT_NUMBERS, KINDS, SLIDE, TETHER,
 };
 use crate::generate::{self, Random};
 use crate::table::{self, Ran};
+use std::f32::consts::FRAC_PI_2;
 
 /// The longest that random bytes get: a little over the largest card.
 const LONGEST: usize = 7000;
@@ -330,12 +332,45 @@ impl Tables {
         Ok(Ran { number, done })
     }
 
+    /// A run from a state in which an arc sine's argument is above 1 in size.
+    fn right_angle(&self, random: &mut Random, hits: &mut Hits) -> Result<u32, Box<Difference>> {
+        let (card, state) = generate::right_angle(random);
+        let bytes = card.encode();
+        let (tick, above) = above_one::of(|| self.both(Call::Tick, &bytes, &state));
+        let tick = tick?;
+        if tick.number == 0 {
+            note_above_one(&card, &tick.state, &above, hits);
+        }
+        Ok(self.both(Call::Run(20), &bytes, &state)?.counts[0])
+    }
+
+    /// A hinge and a ball that rest on a stop at a right angle, and at the f32 next below it.
+    fn held(&self, hits: &mut Hits) -> Result<u64, Box<Difference>> {
+        let mut ticks = 0;
+        for kind in [card::HINGE, card::BALL] {
+            for stop in [FRAC_PI_2, FRAC_PI_2.next_down()] {
+                let card = generate::held(kind, stop);
+                let (ran, above) = above_one::of(|| self.run(&card, 2000, hits));
+                let done = ran?.done;
+                let name = KINDS[kind as usize];
+                let class = format!("{name} held at a quarter turn for 2,000 ticks");
+                hits.look(class, done == 2000 && above.all > 0);
+                ticks += u64::from(done);
+            }
+        }
+        Ok(ticks)
+    }
+
     /// Linkages over hundreds of ticks, and other cards over some.
     pub fn runs(&self, seed: u64, count: u64, hits: &mut Hits) -> Result<u64, Box<Difference>> {
         let mut ticks = 0;
         for case in 0..count {
             let random = &mut Random::of_case(seed, case);
             let (card, most) = match random.below(20) {
+                4 => {
+                    ticks += u64::from(self.right_angle(random, hits)?);
+                    continue;
+                }
                 0 => (generate::linkage(random), 300),
                 1 => (generate::coincident(random), 20),
                 2 | 3 => (generate::any_card(random), 5),
@@ -349,7 +384,7 @@ impl Tables {
             hits.look("run of 300 ticks of 32 bodies", done >= 300 && bodies == 32);
             ticks += u64::from(done);
         }
-        Ok(ticks)
+        Ok(ticks + self.held(hits)?)
     }
 
     // ----------------------------------------------------------------------------------------------------------------------------- states
@@ -435,6 +470,25 @@ fn other_quiet(x: &f32) -> bool {
 /// A NaN that any operation would make quiet.
 fn signalling(x: &f32) -> bool {
     x.is_nan() && x.to_bits() & 1 << 22 == 0
+}
+
+/// Which arc sines above 1 in size a tick of one hinge or ball asked for, and whether its limit was hit. A swing's can't be infinite: its axis is made unit.
+fn note_above_one(card: &Card, after: &[f32], above: &AboveOne, hits: &mut Hits) {
+    let joint = &card.joints[0];
+    let name = KINDS[joint.kind as usize];
+    let mut look =
+        |what: &str, found| hits.look(format!("tick with a {name}'s sine {what}"), found);
+    look("next above 1", above.next > 0);
+    look("far above 1", above.far > 0);
+    if joint.kind == card::HINGE {
+        look("infinite", above.infinite > 0);
+    }
+    let hit = after[BODY_NUMBERS * card.bodies.len()..]
+        .iter()
+        .any(|x| *x != 0.0);
+    let finite = above.all > above.infinite;
+    look("above 1, limit hit", finite && hit);
+    look("above 1, limit not hit", finite && !hit);
 }
 
 /// Which totals a tick left: limits that were hit, motors that pushed.

@@ -110,8 +110,13 @@ pub fn atan2(y: f32, x: f32) -> f32 {
     }
 }
 
-/// NaN above 1 in size: the root is then NaN.
+/// A finite number above 1 in size is read as 1 with its sign (document 02, point 2). Of an infinity the root is NaN.
 pub fn asin(v: f32) -> f32 {
+    let v = if v.is_finite() && v.abs() > 1.0 {
+        1f32.copysign(v)
+    } else {
+        v
+    };
     atan2(v, sqrt((1.0 - v) * (1.0 + v)))
 }
 
@@ -229,7 +234,13 @@ mod tests {
         same(atan2(f32::NAN, 1.0), f32::NAN);
         same(asin(1.0), HALF_PI);
         same(asin(-1.0), -HALF_PI);
-        same(asin(1f32.next_up()), f32::NAN);
+        for above in [1f32.next_up(), 1.5, 1e20, f32::MAX] {
+            same(asin(above), HALF_PI);
+            same(asin(-above), -HALF_PI);
+        }
+        for v in [f32::INFINITY, f32::NEG_INFINITY, f32::NAN] {
+            same(asin(v), f32::NAN);
+        }
         same(asin(-0.0), -0.0);
         same(sqrt(-0.0), -0.0);
         same(sqrt(-1.0), f32::NAN);
