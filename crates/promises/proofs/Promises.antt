@@ -1,5 +1,6 @@
 -- Each is proved where it belongs.
 use Rattle.root.proofs.Closest.{root-exact}
+use Rattle.root.proofs.Starts.{starts-within}
 use Rattle.series.proofs.Nearest.{nearest}
 use Rattle.series.proofs.Interpolation.{interpolation}
 use Rattle.trig.proofs.Accuracy.{accurate}
@@ -25,5 +26,6 @@ promises =
       line = line.examples;
       point-2 = right-angle;
       point-5 = dominance-gone;
+      point-7 = starts-within;
       point-8 = limits-in-reach;
     }

@@ -3,6 +3,7 @@ use lib.Dec.{T}
 use lib.Ieee.{Float, binary32, fits}
 use lib.Ieee.Positive.{positive}
 use Rattle.root.specs.Nearest.{RootIsNearest}
+use Rattle.root.specs.Start.{StartsWithin}
 use Rattle.series.specs.Nearest.{Nearest}
 use Rattle.series.specs.Interpolation.{Interpolation}
 use Rattle.trig.specs.Accuracy.{Accurate}
@@ -27,4 +28,5 @@ pub record Promises : Type 0 where
   -- document 02, by its points
   pub point-2 : RightAngle
   pub point-5 : DominanceGone
+  pub point-7 : StartsWithin
   pub point-8 : LimitsInReach

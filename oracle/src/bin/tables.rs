@@ -13,6 +13,7 @@ struct Part {
 const DEFINITIONS: &str = "crates/series/specs/Tables.antt";
 const ROWS: &str = "crates/trig_tables/src/lib.rt";
 const CURVES: &str = "crates/root/src/lib.rt";
+const STARTS: &str = "crates/root/specs/Start.antt";
 
 /// A table of 1,025 numbers: 16 rows of 64, and one number more.
 struct Table {
@@ -115,10 +116,11 @@ impl Table {
     }
 }
 
-/// The root's guess on the 65,536 patterns whose 8 digits from the exponent's last on are `index`: the root, raised by a half, as a parabola t + d·u - e·u² in
-/// the u from 0 to 1 that the 16 digits after them say. t is in parts of 128, d of 64, e of 16.
+/// The root's guess on the numbers at a place of the table of starting values: of an odd exponent at the first 128 places and of an even one after, by the
+/// seven digits after the leading one. It is the root, raised by a half, as a parabola t + d·u - e·u² in the u from 0 to 1 that the next 16 digits say; t is
+/// the starting value. t is in parts of 128, d of 64, e of 16.
 struct Curve {
-    index: usize,
+    place: usize,
 }
 
 /// Fractions have this many digits here, and the numbers below a root twice as many.
@@ -127,12 +129,12 @@ const DIGITS: u32 = 30;
 impl Curve {
     /// The significand at u = 0, with its leading digit.
     fn significand(&self) -> u128 {
-        (128 + self.index as u128 % 128) << 16
+        (128 + self.place as u128 % 128) << 16
     }
 
     /// factor · the significand `m`, over 2^(2·DIGITS), as the root takes it: moved up so that the root has 24 digits.
     fn root(&self, factor: u128, m: u128) -> i128 {
-        let up = if self.index < 128 { 24 } else { 23 };
+        let up = if self.place < 128 { 24 } else { 23 };
         ((m * factor) << up).isqrt() as i128
     }
 
@@ -168,7 +170,7 @@ impl Curve {
             (least.min(x), greatest.max(x))
         });
         // Next to 1 the root lies just below the middle of two f32.
-        let next_to_one = matches!(self.index, 127 | 128);
+        let next_to_one = matches!(self.place, 127 | 128);
         rounded(least + greatest, 2) - 2 * i128::from(next_to_one)
     }
 
@@ -188,15 +190,22 @@ fn rounded(x: i128, n: i128) -> i128 {
 }
 
 fn curves() -> Vec<Part> {
-    let arms = lines(0..256, |index| {
-        let packed = Curve { index }.packed();
-        match index {
-            255 => format!("        _ => 0x{packed:016x},"),
-            _ => format!("        {index} => 0x{packed:016x},"),
-        }
+    let curves: Vec<u64> = (0..256).map(|place| Curve { place }.packed()).collect();
+    let arms = lines(curves.iter().enumerate(), |(place, curve)| {
+        format!("        {place} => 0x{curve:016x},")
     });
-    let text = format!("    match i {{\n{arms}\n    }}\n");
-    vec![Part { file: CURVES, text }]
+    let values = lines(curves.chunks(16), |row| {
+        let cells: Vec<String> = row
+            .iter()
+            .map(|curve| format!("{} ∷", curve >> 33))
+            .collect();
+        format!("    {}", cells.join(" "))
+    });
+    let of = |file, text| Part { file, text };
+    vec![
+        of(CURVES, format!("    match i {{\n{arms}\n")),
+        of(STARTS, format!("startingValues =\n{values} []\n")),
+    ]
 }
 
 fn main() {

@@ -1,22 +1,19 @@
 -- `RootBits.antt` has the numbers.
-use mathlib.Core.Path.{_≡_}
-use Prim.Native.Nat.{_/_, _^_, _<_}
+use Prim.Native.Nat.{_+_, _*_, _/_, _≤_, _<_}
 use native.Mathlib.Omega.{arith}
 use borrow.Author.Needs.{needs}
-use lib.Ieee.{binary32, ofBits}
-use Rattle.root.specs.Root.{rootOf}
-use Rattle.root.proofs.RootBits.{in-range, made, all}
+use Rattle.root.proofs.RootBits.{in-range, all, whole, lower}
 use Rattle.root.proofs.root_of.Statement.{statement}
 use Rattle.root.proofs.root_of.Tie as tie
 
 add-g : tie.Need-add-g
 add-g c = search needs
 
-sub-g : tie.Need-sub-g
-sub-g c = search needs
-
 add-m : tie.Need-add-m
 add-m c = search needs
+
+curve-of-requires : tie.Need-curve-of-requires
+curve-of-requires c κs = search needs
 
 cast-root-near : tie.Need-cast-root-near
 cast-root-near c = search needs
@@ -30,24 +27,26 @@ cast-root-near-2 c = search needs
 shl-root-near : tie.Need-shl-root-near
 shl-root-near c = search needs
 
+cast-estimate : tie.Need-cast-estimate
+cast-estimate c = search needs
+
 estimate-requires : tie.Need-estimate-requires
 estimate-requires c κs = search needs
 
 root-near-requires : tie.Need-root-near-requires
 root-near-requires c κs =
-    let s = c .before in
-    let i = in-range (s .args .p) (s .args .l) (s .pre .0) (s .pre .1) in
-    (i .0, i .1, c .estimate .ensures)
-
-facts : (c : tie.After-root-near) → let a = c .before .before .args in
-    let r = made (a .p) (a .l) (c .root-near .result) in
-    (c .root-near .result < 16777216) × (r < 2139095040) × (ofBits binary32 r ≡ rootOf (ofBits binary32 (a .p / 2 ^ a .l)))
-facts c =
     let s = c .before .before in
-    all (s .args .p) (s .args .l) (s .pre .0) (s .pre .1) (c .root-near .result) (c .root-near .ensures)
+    let i = in-range (whole (s .args .p) (s .pre)) in
+    let v = c .before .curve-of .ensures .0 in
+    (i .0, i .1, c .estimate .ensures, omega (arith, v), omega arith)
 
-sub-result : tie.Need-sub-result
-sub-result c = search needs
+facts : (c : tie.After-root-near) → let g = c .before .before .before .args .p / 8388608 + 125 in
+    let q = c .root-near .result in
+    (q < 16777216) × (g / 2 * 8388608 + q < 2139095040) × (100663296 ≤ g / 2 * 8388608 + q)
+facts c =
+    let s = c .before .before .before in
+    let f = all (whole (s .args .p) (s .pre)) (c .root-near .result) (c .root-near .ensures) in
+    (f .0, f .1, omega arith)
 
 mul-result : tie.Need-mul-result
 mul-result c = search needs
@@ -59,7 +58,7 @@ add-result : tie.Need-add-result
 add-result c = omega (arith, facts c .1)
 
 returns : tie.Need-returns
-returns c = (facts c .2, facts c .1)
+returns c = let s = c .before .before .before in (facts c .2, facts c .1, lower (s .args .p) (s .pre) (c .root-near .result) (c .root-near .ensures))
 
 pub root-of-spec : {M : Type 1} → statement M
-root-of-spec = tie.close (tie.spec add-g sub-g add-m cast-root-near add-root-near cast-root-near-2 shl-root-near estimate-requires root-near-requires sub-result mul-result cast-result add-result returns)
+root-of-spec = tie.close (tie.spec add-g add-m curve-of-requires cast-root-near add-root-near cast-root-near-2 shl-root-near cast-estimate estimate-requires root-near-requires mul-result cast-result add-result returns)
