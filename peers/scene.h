@@ -12,7 +12,7 @@ using Vec3 = std::array<double, 3>;
 
 enum Kind : uint32_t { HINGE = 1, SLIDE = 2, BALL = 3 };
 
-/// The inertia is the same about each axis: a card's stays in world axes, the peers' turn with the body.
+/// The inertia is the same about each axis.
 struct Body {
     bool anchored = false;
     std::array<float, 3> position{};

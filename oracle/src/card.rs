@@ -1,5 +1,6 @@
 //! Document 01, 'The card' and 'Turned back', with document 02's changes: the layout, its encoding and decoding, and the refusals up to 12.
 
+use crate::math;
 use crate::solver;
 
 pub const HEADER_BYTES: usize = 12;
@@ -504,13 +505,14 @@ pub fn check_state_numbers(card: &Card, state: &[f32]) -> Result<(), u32> {
 // ---------------------------------------------------------------------------------------------------------------- the solver's records
 
 impl Body {
-    pub fn inertia(&self) -> solver::Inertia {
+    /// The card's six numbers are along the body's own axes; the solver's are turned by the rotation that the tick finds.
+    pub fn inertia(&self, rotation: [f32; 4]) -> solver::Inertia {
         if self.anchored {
             return solver::Inertia::dummy();
         }
         solver::Inertia {
             inv_mass: self.inv_mass,
-            inv_inertia: self.inv_inertia,
+            inv_inertia: math::turned_tensor(rotation, self.inv_inertia),
             dominance: self.dominance as i16,
             locks: self.locks,
         }

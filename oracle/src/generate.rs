@@ -1030,6 +1030,33 @@ pub fn coincident(random: &mut Random) -> Card {
     card
 }
 
+/// A linkage whose joints ask for nothing, with one body more that is in no joint, and a state in which turned inertias overflow and nothing else does: in
+/// all rotations z alone, so that the matrix is diagonal and no joint sees a turn. An inertia along z alone doesn't overflow.
+pub fn overflowing(random: &mut Random) -> (Card, Vec<f32>) {
+    let mut card = coincident(random);
+    card.bodies.push(Body::UNIT);
+    let jointed = random.one_in(2);
+    let last = card.bodies.len() - 1;
+    for (i, body) in card.bodies.iter_mut().enumerate() {
+        if body.anchored {
+            continue;
+        }
+        body.locks = random.locks();
+        let size = random.pick(&[1.0, 6.0, 1024.0]);
+        let along_z = i < last && !jointed || i > 0 && random.one_in(3);
+        body.inv_inertia = match along_z {
+            true => [0.0, 0.0, 0.0, 0.0, 0.0, size],
+            false => [size, 0.0, 0.0, size, 0.0, size],
+        };
+    }
+    let mut state = table::start_state(&card);
+    let z = random.sign() * random.between(4.5e9, 9e9);
+    for numbers in state[..BODY_NUMBERS * card.bodies.len()].chunks_mut(BODY_NUMBERS) {
+        numbers[3..7].copy_from_slice(&[0.0, 0.0, z, 0.0]);
+    }
+    (card, state)
+}
+
 /// A card of one joint case, for ticks with right-angle swings, limits hit on either side and the like.
 pub fn pair(random: &mut Random) -> Card {
     let mut card = header(random);

@@ -194,7 +194,7 @@ pub fn answer(name: &str, x: &[f32]) -> Vec<f32> {
             "arc sine" => vec![linkage_asin(x[0])],
             "vectors" => call(x, 34, |i, m, o, n| linkage_vectors(i, m, o, n)),
             "rotations" => call(x, 24, |i, m, o, n| linkage_rotations(i, m, o, n)),
-            "matrices" => call(x, 15, |i, m, o, n| linkage_matrices(i, m, o, n)),
+            "matrices" => call(x, 21, |i, m, o, n| linkage_matrices(i, m, o, n)),
             "distance limit" => call(x, 7, |i, m, o, n| linkage_distance_limit(i, m, o, n)),
             "angle limit" => call(x, 4, |i, m, o, n| linkage_angle_limit(i, m, o, n)),
             "motor" => {

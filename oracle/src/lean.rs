@@ -46,6 +46,8 @@ struct Linkage {
     bodies: Vec<Body>,
     /// One for each body, at its place; an anchored body's is not used.
     solver_bodies: SolverBodies,
+    /// One for each body, turned at each tick's start.
+    inertias: Vec<SolverBodyInertia>,
     joints: Vec<Joint>,
 }
 
@@ -60,7 +62,6 @@ struct Body {
 struct Joint {
     bodies: [usize; 2],
     anchored: [bool; 2],
-    inertias: [SolverBodyInertia; 2],
     component: AnyJoint,
 }
 
@@ -81,12 +82,11 @@ impl From<&card::Body> for Body {
 }
 
 impl Joint {
-    fn new(joint: &card::Joint, bodies: &[Body], inertias: &[SolverBodyInertia]) -> Joint {
+    fn new(joint: &card::Joint, bodies: &[Body]) -> Joint {
         let [body1, body2] = [joint.body1 as usize, joint.body2 as usize];
         Joint {
             bodies: [body1, body2],
             anchored: [bodies[body1].anchored, bodies[body2].anchored],
-            inertias: [inertias[body1].clone(), inertias[body2].clone()],
             component: (&joint.solver_joint()).into(),
         }
     }
@@ -109,6 +109,7 @@ impl Linkage {
             time: Time { delta_secs: 0.0 },
             bodies: Vec::with_capacity(CAPACITY),
             solver_bodies,
+            inertias: Vec::with_capacity(CAPACITY),
             joints: Vec::with_capacity(CAPACITY),
         }
     }
@@ -150,11 +151,10 @@ impl Linkage {
         self.time.delta_secs = card.dt();
         self.bodies.clear();
         self.bodies.extend(card.bodies.iter().map(Body::from));
-        let inertias = self.solver_bodies.inertias_mut();
-        for (body, inertia) in card.bodies.iter().zip(inertias.iter_mut()) {
-            *inertia = (&body.inertia()).into();
-        }
-        let joint = |joint| Joint::new(joint, &self.bodies, inertias);
+        self.inertias.clear();
+        self.inertias
+            .resize(card.bodies.len(), SolverBodyInertia::DUMMY);
+        let joint = |joint| Joint::new(joint, &self.bodies);
         self.joints.clear();
         self.joints.extend(card.joints.iter().map(joint));
     }
@@ -221,6 +221,7 @@ impl Linkage {
     /// One tick, or none where 13 stops it; what is kept then has no meaning.
     fn tick(&mut self) -> Option<()> {
         self.clear_deltas();
+        self.turn_inertias();
         self.prepare();
         self.warm_start();
         self.integrate();
@@ -233,6 +234,15 @@ impl Linkage {
         for solver_body in &mut solver_bodies[..self.bodies.len()] {
             solver_body.delta_position = SolverBody::DUMMY.delta_position;
             solver_body.delta_rotation = SolverBody::DUMMY.delta_rotation;
+        }
+    }
+
+    fn turn_inertias(&mut self) {
+        let bodies = self.card.bodies.iter().zip(&self.bodies);
+        for ((of, body), inertia) in bodies.zip(&mut self.inertias) {
+            if !body.anchored {
+                *inertia = (&of.inertia(body.pose.rotation.0.to_array())).into();
+            }
         }
     }
 
@@ -256,7 +266,7 @@ impl Linkage {
         for joint in &mut self.joints {
             let mut dummy = SolverBody::DUMMY;
             let bodies = two_of(solver_bodies, joint.bodies, joint.anchored, &mut dummy);
-            let inertias = joint.inertias.each_ref();
+            let inertias = joint.bodies.map(|i| &self.inertias[i]);
             for_any_joint!(
                 &mut joint.component,
                 s => s.joint.warm_start_motors(bodies, inertias, &mut s.data, dt, coefficient)
@@ -293,14 +303,15 @@ impl Linkage {
         for joint in &mut self.joints {
             let mut dummy = SolverBody::DUMMY;
             let [body1, body2] = two_of(solver_bodies, joint.bodies, joint.anchored, &mut dummy);
-            let inertias = joint.inertias.each_ref();
+            let inertias = joint.bodies.map(|i| &self.inertias[i]);
             let joint_finite = for_any_joint!(&mut joint.component, s => {
                 s.joint.solve([body1, body2], inertias, &mut s.data, dt);
                 let mut all = finite(s.data.totals().as_flattened());
                 s.data.for_each_number(|number| all &= number.is_finite());
                 all
             });
-            if !(joint_finite && body_finite(body1) && body_finite(body2)) {
+            let all = joint_finite && body_finite(body1) && body_finite(body2);
+            if !(all && inertias.into_iter().all(inertia_finite)) {
                 return None;
             }
         }
@@ -351,6 +362,10 @@ fn body_finite(body: &SolverBody) -> bool {
     velocities_finite(body)
         && finite(&body.delta_position.to_array())
         && finite(&body.delta_rotation.to_array())
+}
+
+fn inertia_finite(inertia: &SolverBodyInertia) -> bool {
+    finite(&<[f32; 6]>::from(inertia.effective_inv_angular_inertia()))
 }
 
 const BODY: Entity = Entity(0);

@@ -111,6 +111,11 @@ fn array<const N: usize>(numbers: &[f32]) -> [f32; N] {
     numbers.try_into().unwrap()
 }
 
+/// Refusal 13's look at a body, with the inverse inertia that the tick turned; an anchored body's is the dummy's.
+fn body_finite(motion: &Motion, inertia: &Inertia) -> bool {
+    motion_finite(motion) && card::finite(&inertia.inv_inertia)
+}
+
 fn motion_finite(motion: &Motion) -> bool {
     motion
         .linear_velocity
@@ -152,15 +157,16 @@ pub fn step(card: &Card, state: &mut [f32]) -> Result<(), u32> {
             },
         })
         .collect();
+    let turned: Vec<Inertia> = card
+        .bodies
+        .iter()
+        .zip(&poses)
+        .map(|(body, pose)| body.inertia(pose.rotation))
+        .collect();
     let inertias: Vec<(Inertia, Inertia)> = card
         .joints
         .iter()
-        .map(|joint| {
-            solver::choose(
-                &card.bodies[joint.body1 as usize].inertia(),
-                &card.bodies[joint.body2 as usize].inertia(),
-            )
-        })
+        .map(|joint| solver::choose(&turned[joint.body1 as usize], &turned[joint.body2 as usize]))
         .collect();
 
     let mut prepared: Vec<solver::Prepared> = card
@@ -224,7 +230,10 @@ pub fn step(card: &Card, state: &mut [f32]) -> Result<(), u32> {
             inertia2,
             dt,
         );
-        if !(prepared[i].is_finite() && motion_finite(&motion1) && motion_finite(&motion2)) {
+        if !(prepared[i].is_finite()
+            && body_finite(&motion1, &turned[body1])
+            && body_finite(&motion2, &turned[body2]))
+        {
             return Err(13);
         }
         keep(card, &mut motions, body1, motion1);
@@ -472,6 +481,51 @@ mod tests {
         assert_eq!(state[13..16], [0.0, -0.0625, 0.0]);
         assert_eq!(state[20..23], [0.0, -1.0, 0.0]);
         assert_eq!(state[26..39], start_state(&card)[26..39]);
+    }
+
+    #[test]
+    fn inertia_along_the_bodys_own_axes() {
+        // A rod along its own x, and a ball joint that pulls its end along z: it turns about y. Turned to lie along y, and pulled along x, it turns about z by the same.
+        let mut card = Card::example();
+        card.bodies = vec![Body::UNIT, Body::ANCHORED];
+        card.bodies[0].inv_inertia = [1024.0, 0.0, 0.0, 1.0, 0.0, 2.0];
+        card.joints = vec![Joint::plain(card::BALL, 0, 1)];
+        let turned = |card: &Card| {
+            let mut state = start_state(card);
+            assert_eq!(step(card, &mut state), Ok(()));
+            state[10..13].to_vec()
+        };
+        card.bodies[0].position = [-1.0, 0.0, 0.25];
+        card.joints[0].anchor1 = [1.0, 0.0, 0.0];
+        let along_x = turned(&card);
+        assert!(along_x[1].abs() > 0.1 && along_x[0] == 0.0 && along_x[2] == 0.0);
+        // A third of a turn about (1, 1, 1) takes x to y, y to z and z to x, exactly.
+        card.bodies[0].rotation = [0.5; 4];
+        card.bodies[0].position = [0.25, -1.0, 0.0];
+        assert_eq!(turned(&card), [along_x[2], along_x[0], along_x[1]]);
+    }
+
+    #[test]
+    fn an_inertia_that_overflows() {
+        for kind in 0..5 {
+            let mut card = Card::example();
+            card.bodies = vec![Body::UNIT; 3];
+            card.joints = vec![Joint::plain(kind, 0, 1)];
+            let long = |card: &Card, bodies: &[usize]| {
+                let mut state = start_state(card);
+                for i in bodies {
+                    state[BODY_NUMBERS * i + 3..BODY_NUMBERS * i + 7]
+                        .copy_from_slice(&[0.0, 0.0, 5e9, 0.0]);
+                }
+                step(card, &mut state)
+            };
+            assert_eq!(long(&card, &[0, 1]), Err(13), "{kind}");
+            assert_eq!(long(&card, &[2]), Ok(()), "{kind}");
+            card.bodies[0].inv_inertia = [0.0, 0.0, 0.0, 0.0, 0.0, 1.0];
+            assert_eq!(long(&card, &[0, 1]), Err(13), "{kind}");
+            card.bodies[1] = Body::ANCHORED;
+            assert_eq!(long(&card, &[0, 1]), Ok(()), "{kind}");
+        }
     }
 
     #[test]

@@ -19,8 +19,10 @@ use Rattle.card.specs.Card.{flag, Card, cardOf}
 use Rattle.card.specs.Checks.{firstOf, checkOf}
 use Rattle.loader.specs.Linkage.{Linkage, bodyIn, bodyOf, startBody, linkageOf}
 use Rattle.state.specs.State.{bodyAt, numbersOf, startState, startChecks, startOf}
-use Rattle.tick.specs.Tick.{solved, newBody, newState}
+use Rattle.tick.specs.Body.{turnedBody}
+use Rattle.tick.specs.Tick.{turnedLinkage, solved, newBody, newState}
 use Rattle.tick.specs.Run.{Ran, tickOf, tickNext, runOf}
+use Rattle.tick.proofs.Turning.{bodies-turned, body-turned}
 use Rattle.demand.specs.Demand.{Call, start, tick, ticks, leaves, afterCalls, CardOrRefused, AnchoredKept}
 use Rattle.demand.proofs.Checks.{start-passed, tick-passed}
 use Rattle.demand.proofs.Rows.{body-part, part-read}
@@ -39,19 +41,21 @@ chosen false a b t = absurd t
 
 module _ (c : Card) (s : List Float) where
   abbrev K : Linkage
-  K = linkageOf c
+  K = turnedLinkage (linkageOf c) s
 
-  body-kept : (i : ℕ) → T (flag 0 (getD (c .bodies) i [])) → newBody K s i ≡ bodyAt s i
-  unfolding newBody linkageOf bodyIn
-  body-kept i a = rw (List·getD-map bodyOf (c .bodies) i []) (chosen (flag 0 (getD (c .bodies) i [])) (bodyAt s i) _ a)
+  body-kept : (i : ℕ) → i < length (c .bodies) → T (flag 0 (getD (c .bodies) i [])) → newBody K s i ≡ bodyAt s i
+  unfolding newBody linkageOf turnedBody bodyIn
+  body-kept i h a =
+      rw (body-turned (linkageOf c) s i (rw (length-map (c .bodies) bodyOf) h), List·getD-map bodyOf (c .bodies) i [])
+      (chosen (flag 0 (getD (c .bodies) i [])) (bodyAt s i) _ a)
 
   new-kept : AnchoredKept c s → AnchoredKept c (newState K s)
   unfolding newState linkageOf
   new-kept z i h a =
       let n = length (K .bodies) in
-      let l : i < n = rw (length-map (c .bodies) bodyOf) h in
+      let l : i < n = rw (bodies-turned (linkageOf c) s, length-map (c .bodies) bodyOf) h in
       body-part (each (newBody K s) n) (solved K s .totals) i (bodyAt s i) (rw (each-length (newBody K s) n) l)
-      ∙ ap numbersOf (each-at (newBody K s) n i (bodyAt s i) l ∙ body-kept i a ∙ part-read s i (startBody (getD (c .bodies) i [])) (z i h a))
+      ∙ ap numbersOf (each-at (newBody K s) n i (bodyAt s i) l ∙ body-kept i h a ∙ part-read s i (startBody (getD (c .bodies) i [])) (z i h a))
 
 -- ---- bytes that the card's checks refuse: nothing is written
 
@@ -65,7 +69,7 @@ module _ (bytes : List ℕ) (s : List Float) (x : checkOf bytes ≡ 0 → ⊥) w
 
   tick-refused : tickOf bytes s .state ≡ s
   unfolding tickOf
-  tick-refused = left (tickOf bytes s .number) s (newState (linkageOf (cardOf bytes)) s) (λ e. x (tick-passed bytes s e .0))
+  tick-refused = left (tickOf bytes s .number) s (newState (turnedLinkage (linkageOf (cardOf bytes)) s) s) (λ e. x (tick-passed bytes s e .0))
 
 -- ---- calls
 
@@ -80,7 +84,7 @@ module _ (card bytes : List ℕ) where
 
   tick-leaves : CardOrRefused card bytes → (s : List Float) → Kept s → Kept (tickOf bytes s .state)
   unfolding tickOf
-  tick-leaves (inl e) s z = rw e (either Kept (eqb (tickOf card s .number) 0) (newState (linkageOf (cardOf card)) s) s (new-kept (cardOf card) s z) z)
+  tick-leaves (inl e) s z = rw e (either Kept (eqb (tickOf card s .number) 0) (newState (turnedLinkage (linkageOf (cardOf card)) s) s) s (new-kept (cardOf card) s z) z)
   tick-leaves (inr x) s z = rw (tick-refused bytes s x) z
 
   next-leaves : CardOrRefused card bytes → (i : ℕ) (a : Ran) → Kept (a .state) → Kept (tickNext bytes i a .state)

@@ -12,15 +12,16 @@ use Rattle.vector.specs.declared.Vec3.{Vec3}
 use Rattle.joints.specs.declared.Joint.{Joint}
 use Rattle.solver_body.specs.declared.RigidBody.{RigidBody}
 use Rattle.solver_body.specs.declared.SolverBody.{SolverBody}
+use Rattle.solver_body.specs.declared.SolverBodyInertia.{SolverBodyInertia}
 use Rattle.xpbd_joints.specs.Steps.{Run}
 use Rattle.xpbd_joints.specs.declared.JointTotals.{JointTotals}
 use Rattle.stages.proofs.Vec.{Finite3}
 use Rattle.stages.proofs.Back.{AllTotals, Calm}
 use Rattle.numbers.specs.Lists.{all}
-use Rattle.numbers.specs.Numbers.{numbers3, numbers4}
+use Rattle.numbers.specs.Numbers.{numbers3, numbers4, numbers6}
 use Rattle.state.specs.State.{totalsNumbers}
 use Rattle.tick.specs.Joint.{preparedNumbers, solverNumbers, lookedAt}
-use Rattle.tick.proofs.All.{four}
+use Rattle.tick.proofs.All.{three, four}
 
 finite-is : (x : Float) → T (isFinite x) → T (finite x)
 finite-is x h = subst T (is-finite x) h
@@ -36,6 +37,12 @@ vector-finite v h =
     let z = isFinite (v .z) in
     let yz = and-r x (y && (z && true)) h in
     (finite-is (v .x) (and-l x (y && (z && true)) h), finite-is (v .y) (and-l y (z && true) yz), finite-is (v .z) (and-l z true (and-r y (z && true) yz)))
+
+-- the first part of three
+first-part : (l m n : List Float) → Finite (l ++ m ++ n) → Finite l
+first-part l m n h =
+    let M = all isFinite m in
+    and-l (all isFinite l) M (and-l (all isFinite l && M) (all isFinite n) (subst T (three l m n) h))
 
 -- the four parts of a list
 module _ (l m n o : List Float) (h : Finite (l ++ m ++ n ++ o)) where
@@ -83,12 +90,13 @@ totals-finite t h =
       f₄ = vector-finite (t .fourth) (part-4 a b c d h);
     }
 
-pub solve-calm : (j : Joint) (b₁ b₂ : RigidBody) (r : Run) → T (all isFinite (lookedAt j b₁ b₂ r)) → Calm r
-solve-calm j b₁ b₂ r h =
+pub solve-calm : (j : Joint) (b₁ b₂ : RigidBody) (i₁ i₂ : SolverBodyInertia) (r : Run) → T (all isFinite (lookedAt j b₁ b₂ i₁ i₂ r)) → Calm r
+solve-calm j b₁ b₂ i₁ i₂ r k =
     let p = preparedNumbers j b₁ b₂ in
     let t = totalsNumbers (r .totals) in
     let b = solverNumbers (r .bodies .body1) in
     let c = solverNumbers (r .bodies .body2) in
+    let h = first-part (p ++ t ++ b ++ c) (numbers6 (i₁ .«inv_angular_inertia»)) (numbers6 (i₂ .«inv_angular_inertia»)) k in
     record {
       still = record { d₁ = displacement-finite (r .bodies .body1) (part-3 p t b c h); d₂ = displacement-finite (r .bodies .body2) (part-4 p t b c h) };
       totals = totals-finite (r .totals) (part-2 p t b c h);

@@ -10,7 +10,7 @@ use Rattle.card.specs.Checks.{Refusal, refuse, firstOf, cardChecks, checkOf}
 use Rattle.card.proofs.Accepted.{passed}
 use Rattle.loader.specs.Linkage.{linkageOf}
 use Rattle.state.specs.State.{startChecks, stateChecks, startOf}
-use Rattle.tick.specs.Tick.{stopped}
+use Rattle.tick.specs.Tick.{turnedLinkage, stopped}
 use Rattle.tick.specs.Run.{tickOf}
 
 -- the card's come first
@@ -28,8 +28,8 @@ module _ (card : List ℕ) (s : List Float) where
   unfolding startOf checkOf
   start-passed e = none-of many (startChecks card s) e
 
-  pub tick-passed : tickOf card s .number ≡ 0 → (checkOf card ≡ 0) × (stopped (linkageOf (cardOf card)) s ≡ false)
+  pub tick-passed : tickOf card s .number ≡ 0 → (checkOf card ≡ 0) × (stopped (turnedLinkage (linkageOf (cardOf card)) s) s ≡ false)
   unfolding tickOf checkOf
   tick-passed e =
-      let checks = stateChecks card s ++ (refuse 13 (stopped (linkageOf (cardOf card)) s) ∷ []) in
+      let checks = stateChecks card s ++ (refuse 13 (stopped (turnedLinkage (linkageOf (cardOf card)) s) s) ∷ []) in
       (none-of many checks e, passed checks tt e 13)

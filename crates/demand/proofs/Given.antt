@@ -5,12 +5,13 @@ use native.Mathlib.Omega.{arith}
 use mathlib.Core.Path.{_≡_}
 use mathlib.Core.Bool.{Bool, true, false}
 use mathlib.Core.List.{List, [], _∷_, map}
-use lib.ListN.{length, getD, drop, List·getD-map}
+use lib.ListN.{length, getD, drop, length-map, List·getD-map}
 use lib.Dec.{T}
 use lib.Ieee.{Float, binary32, ofBits, ofFields, fits, le}
 use lib.Ieee.Bits.{ofBits-fits}
 use Rattle.scalar.specs.Arith.{f32, f0}
 use Rattle.vector.specs.declared.Vec3.{Vec3}
+use Rattle.vector.specs.declared.Quat.{Quat}
 use Rattle.joints.specs.declared.Joint.{Joint}
 use Rattle.joints.specs.declared.Joint.the-variants.{Fixed, Revolute, Prismatic, Spherical, Distance}
 use Rattle.joints.specs.declared.AngleLimitOption.{AngleLimitOption}
@@ -33,7 +34,11 @@ use Rattle.card.proofs.Cut.{records-length, record-at}
 use Rattle.card.proofs.Edition1.{only-edition, edition-is}
 use Rattle.card.proofs.Accepted.{accepted}
 use Rattle.loader.specs.Linkage.{Linkage, angularMotorIn, linearMotorIn, fixedIn, revoluteIn, prismaticIn, sphericalIn, distanceIn, kindIn, bodyIn, bodyOf, jointOf, linkageOf}
+use Rattle.loader.specs.declared.body.LinkBody.{LinkBody}
+use Rattle.state.specs.State.{bodyAt}
+use Rattle.tick.specs.Body.{turnedBody}
 use Rattle.tick.specs.Tick as tick
+use Rattle.tick.proofs.Turning.{body-turned}
 
 -- ---- inverse masses
 
@@ -61,6 +66,11 @@ masses-held i h = (
 body-held : (l : List ℕ) (p : ℕ) → Ranged body (numbersAt body l p) → MassHeld (bodyOf (numbersAt body l p) .inertia)
 unfolding bodyIn numbersAt
 body-held l p r = either MassHeld (flag 0 (numbersAt body l p)) dummyInertia _ zero-held (r 22 .held)
+
+-- turning leaves it as it is
+turned-held : (q : Quat) (b : LinkBody) → MassHeld (b .inertia) → MassHeld (turnedBody q b .inertia)
+unfolding turnedBody
+turned-held q b m = either MassHeld (b .anchored) (b .inertia) _ m m
 
 -- ---- compliances and caps
 
@@ -121,25 +131,36 @@ module _ (card : List ℕ) (z : checkOf card ≡ 0) (s : List Float) where
   abbrev K : Linkage
   K = linkageOf c
 
+  -- as the tick from s has it
+  abbrev L : Linkage
+  L = tick.turnedLinkage K s
+
   abbrev has : AcceptedCard (editionAt card) c
   has = accepted card z .has
 
-  time-held : Held binary32 (K .dt)
-  unfolding linkageOf ofBits ofFields
+  time-held : Held binary32 (L .dt)
+  unfolding tick.turnedLinkage linkageOf ofBits ofFields
   time-held = step-held binary32 (at 3 (c .header)) (lt-of-lt-of-le (omega arith) (has .least-rate))
 
-  mass-held : (i : ℕ) → i < length (c .bodies) → MassHeld (tick.body K i .inertia)
+  card-mass : (i : ℕ) → i < length (c .bodies) → MassHeld (tick.body K i .inertia)
   unfolding linkageOf cardOf
-  mass-held i h = rw (List·getD-map bodyOf (c .bodies) i []) (each-has (λ ns. MassHeld (bodyOf ns .inertia)) body card (body-held card) _ _ i h (has .body i h))
+  card-mass i h = rw (List·getD-map bodyOf (c .bodies) i []) (each-has (λ ns. MassHeld (bodyOf ns .inertia)) body card (body-held card) _ _ i h (has .body i h))
 
-  joint-is : (j : ℕ) → tick.joint K j ≡ jointOf (getD (c .joints) j [])
+  bodies-counted : length (K .bodies) ≡ length (c .bodies)
   unfolding linkageOf
+  bodies-counted = length-map (c .bodies) bodyOf
+
+  mass-held : (i : ℕ) → i < length (c .bodies) → MassHeld (tick.body L i .inertia)
+  mass-held i h = rw (body-turned K s i (rw bodies-counted h)) (turned-held (bodyAt s i .rotation) (tick.body K i) (card-mass i h))
+
+  joint-is : (j : ℕ) → tick.joint L j ≡ jointOf (getD (c .joints) j [])
+  unfolding tick.turnedLinkage linkageOf
   joint-is j = List·getD-map jointOf (c .joints) j []
 
   module _ (j : ℕ) (h : j < length (c .joints)) where
-    pub setting-ok : SettingOk (tick.setting K true j)
+    pub setting-ok : SettingOk (tick.setting L true j)
     setting-ok =
-        let k = tick.joint K j in
+        let k = tick.joint L j in
         let n = has .joint j h in
         record {
           dt-held = time-held;
@@ -147,10 +168,10 @@ module _ (card : List ℕ) (z : checkOf card ≡ 0) (s : List Float) where
           m₂ = masses-held _ (mass-held (k .body2) (rw (joint-is j) (n .body2)));
         }
 
-    pub steps-ok : All StepOk (tick.steps K s j)
+    pub steps-ok : All StepOk (tick.steps L s j)
     unfolding tick.steps cardOf
     steps-ok =
         let e = edition-is card (only-edition (accepted card z .edition)) in
-        steps-of-ok (tick.joint K j .joint)
+        steps-of-ok (tick.joint L j .joint)
         (rw (joint-is j) (each-has (λ ns. Compliant (jointOf ns .joint)) (editionAt card .joint) card (rw e (joint-compliant card)) _ _ j h (has .joint j h .ranged)))
         _ _

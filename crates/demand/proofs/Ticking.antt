@@ -18,7 +18,7 @@ use Rattle.numbers.proofs.Loops.{after-back}
 use Rattle.scalar.specs.Scalar.{isFinite}
 use Rattle.loader.specs.Linkage.{Linkage, jointOf, linkageOf}
 use Rattle.state.specs.State.{badNumbers}
-use Rattle.tick.specs.Tick.{Solved, joint, putPair, setting, rigid, steps, preSolve, found, solvedBy, looked, solveNext, solvePass, solvedTo, solved, eventsAt, newState, stopped}
+use Rattle.tick.specs.Tick.{Solved, body, joint, putPair, turnedLinkage, setting, rigid, steps, preSolve, found, solvedBy, looked, solveNext, solvePass, solvedTo, solved, eventsAt, newState, stopped}
 use Rattle.tick.specs.Run.{tickOf}
 use Rattle.demand.proofs.Checks.{tick-passed}
 use Rattle.demand.proofs.Calm.{solve-calm}
@@ -57,12 +57,12 @@ module _ (K : Linkage) (s : List Float) where
 
 -- ---- the tick
 
-pub tick-sound : (card : List ℕ) (s : List Float) → tickOf card s .number ≡ 0 → (j : ℕ) → j < length (cardOf card .joints) → All EventSound (eventsAt (linkageOf (cardOf card)) s j)
-unfolding eventsAt linkageOf
+pub tick-sound : (card : List ℕ) (s : List Float) → tickOf card s .number ≡ 0 → (j : ℕ) → j < length (cardOf card .joints) → All EventSound (eventsAt (turnedLinkage (linkageOf (cardOf card)) s) s j)
+unfolding eventsAt linkageOf turnedLinkage
 tick-sound card s e j l =
-    let K = linkageOf (cardOf card) in
+    let K = turnedLinkage (linkageOf (cardOf card)) s in
     let t = tick-passed card s e in
     let k = joint K j in
     let n : j < length (K .joints) = rw (length-map (cardOf card .joints) jointOf) l in
     steps-sound (setting K true j) (setting-ok card (t .0) s j l) (steps K s j) (steps-ok card (t .0) s j l) (found K s j (solvedTo K s j)) (pair-fit K s j (solvedTo K s j .bodies) (found-fit K s j))
-    (solve-calm (k .joint) (rigid K s (k .body1)) (rigid K s (k .body2)) (solveAt K s j) (joint-finite K s j n (not-stopped K s (t .1))))
+    (solve-calm (k .joint) (rigid K s (k .body1)) (rigid K s (k .body2)) (body K (k .body1) .inertia) (body K (k .body2) .inertia) (solveAt K s j) (joint-finite K s j n (not-stopped K s (t .1))))

@@ -14,7 +14,7 @@ use Rattle.card.specs.Card.{flag, Card, cardOf}
 use Rattle.card.specs.Checks.{checkOf}
 use Rattle.loader.specs.Linkage.{Linkage, startBody, linkageOf}
 use Rattle.state.specs.State.{bodyNumbers, numbersOf, startState, startOf}
-use Rattle.tick.specs.Tick.{setting, putPair, steps, found, solvedTo, eventsAt}
+use Rattle.tick.specs.Tick.{setting, putPair, turnedLinkage, steps, found, solvedTo, eventsAt}
 use Rattle.tick.specs.Run as calls
 
 -- ---- stages and motors
@@ -26,7 +26,7 @@ pub record EventOfTick (e : Event) : Type 0 where
   pub done : calls.tickOf card state .number ≡ 0
   pub joint : ℕ
   pub on-card : joint < length (cardOf card .joints)
-  pub among : List·Memᴰ e (eventsAt (linkageOf (cardOf card)) state joint)
+  pub among : List·Memᴰ e (eventsAt (turnedLinkage (linkageOf (cardOf card)) state) state joint)
 
 -- ---- anchored bodies
 

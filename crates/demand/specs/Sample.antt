@@ -10,7 +10,7 @@ use Rattle.xpbd_joints.specs.Steps.{Event, aStage, aPush, pushMultiplier}
 use Rattle.card.specs.Card.{cardOf}
 use Rattle.loader.specs.Linkage.{linkageOf}
 use Rattle.state.specs.State.{startState}
-use Rattle.tick.specs.Tick.{eventsAt}
+use Rattle.tick.specs.Tick.{turnedLinkage, eventsAt}
 use Rattle.tick.specs.Run.{tickOf}
 
 -- floats by their bits
@@ -61,7 +61,7 @@ abbrev answerOn : List ℕ → ℕ
 answerOn bytes = tickOf bytes (startState (cardOf bytes)) .number
 
 abbrev pub eventsOn : List ℕ → List Event
-eventsOn bytes = eventsAt (linkageOf (cardOf bytes)) (startState (cardOf bytes)) 0
+eventsOn bytes = let s = startState (cardOf bytes) in eventsAt (turnedLinkage (linkageOf (cardOf bytes)) s) s 0
 
 abbrev pub multiplierIn : Event → Float
 multiplierIn (aStage s) = multiplierOf s

@@ -2,6 +2,7 @@
 use crate::slices::number;
 use crate::slices::put;
 use crate::slices::put_quat;
+use crate::slices::put_tensor;
 use crate::slices::put_vec3;
 use crate::slices::quat;
 use crate::slices::tensor;
@@ -149,22 +150,28 @@ pub extern "C" fn linkage_rotations(input: &[f32], output: &mut [f32]) -> u32 {
     0
 }
 
-// A rotation, a symmetric tensor, a vector (13) to the rotation's matrix by columns, the vector by the matrix, the vector by the tensor (15).
+fn put_matrix(output: &mut [f32], m: Mat3, v: Vec3) {
+    put_vec3(output, 0, m.x_axis);
+    put_vec3(output, 3, m.y_axis);
+    put_vec3(output, 6, m.z_axis);
+    put_vec3(output, 9, m.mul_vec3(v));
+}
+
+// A rotation, a symmetric tensor, a vector (13) to the rotation's matrix by columns, the vector by the matrix, the vector by the tensor, the tensor turned
+// by the rotation (21).
 #[no_mangle]
 pub extern "C" fn linkage_matrices(input: &[f32], output: &mut [f32]) -> u32 {
     if input.len() != 13 {
         return 1;
     }
-    if output.len() != 15 {
+    if output.len() != 21 {
         return 1;
     }
-    let m = Mat3::from_quat(quat(input, 0));
+    let q = quat(input, 0);
     let t = tensor(input, 4);
     let v = vec3(input, 10);
-    put_vec3(output, 0, m.x_axis);
-    put_vec3(output, 3, m.y_axis);
-    put_vec3(output, 6, m.z_axis);
-    put_vec3(output, 9, m.mul_vec3(v));
+    put_matrix(output, Mat3::from_quat(q), v);
     put_vec3(output, 12, t.mul_vec3(v));
+    put_tensor(output, 15, t.turned(q));
     0
 }

@@ -9,8 +9,12 @@ use lib.Seq.{sets, sets-eq, take-all, take-at, drop-at, take-suc-set, take-lengt
 use lib.Dec.{eqb}
 use lib.Ieee.{Float}
 use mir.Val.{boolByte}
+use Rattle.vector.specs.Matrix.{turnedTensor}
+use Rattle.vector.specs.declared.Quat.{Quat}
+use Rattle.vector.specs.declared.SymmetricTensor.{SymmetricTensor}
 use borrow.Rule.Slice.PartMut.{putMid}
 use Rattle.numbers.specs.Lists.{each}
+use Rattle.numbers.specs.Numbers.{numbers6, numberIn}
 use Rattle.numbers.proofs.Rows.{each-length}
 use Rattle.card.specs.declared.records.BodyBits.{BodyBits}
 use Rattle.card.specs.declared.records.JointBits.{JointBits}
@@ -18,8 +22,8 @@ use Rattle.card.specs.Format.{numbersAt}
 use Rattle.card.specs.Card.{body}
 use Rattle.card.specs.Parts.{joint1, bodyBits, jointBits, floatAt}
 use Rattle.card.proofs.Packed.{below}
-use Rattle.loader.specs.Linkage.{}
-use Rattle.loader.specs.Parts.{bodyFloatsOf, jointFloatsOf, floatsFrom, bodyWordsOf, jointWordsOf}
+use Rattle.loader.specs.Linkage.{tensorIn}
+use Rattle.loader.specs.Parts.{bodyFloatsOf, jointFloatsOf, floatsFrom, bodyWordsOf, jointWordsOf, turnedFloats}
 
 -- ---- a slice that is written whole
 
@@ -64,6 +68,10 @@ bit : (n : ℕ) → n < 2 → boolByte (eqb n 1) ≡ n
 bit zero h = refl
 bit (suc zero) h = refl
 bit (suc (suc n)) h = absurd (omega arith)
+
+pub body-turned : (q : Quat) (f l : List Float) {t : SymmetricTensor} → length l ≡ 10 → t ≡ turnedTensor q (tensorIn f)
+    → sets l 0 (numberIn f 0 ∷ numberIn f 1 ∷ numberIn f 2 ∷ numberIn f 3 ∷ numbers6 t) ≡ turnedFloats q f
+body-turned q f l {t} n e = filled l (numberIn f 0 ∷ numberIn f 1 ∷ numberIn f 2 ∷ numberIn f 3 ∷ numbers6 t) n ∙ rw e refl
 
 module _ (bytes : List ℕ) where
   pub body-words : (l : List ℕ) {b : BodyBits} → length l ≡ 4 → b ≡ bodyBits (numbersAt body bytes 0)

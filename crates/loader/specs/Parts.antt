@@ -8,16 +8,19 @@ use lib.IntN.{pos}
 use lib.Ieee.{Float, binary32, ofInt}
 use Rattle.scalar.specs.Arith.{_⊘_, f32, f1}
 use Rattle.joints.specs.Reach.{InReach, EachAngleLimit}
+use Rattle.vector.specs.Matrix.{turnedTensor}
+use Rattle.vector.specs.declared.Quat.{Quat}
 use Rattle.joints.specs.declared.Joint.{Joint}
 use Rattle.joints.specs.declared.Joint.the-variants.{Fixed, Revolute, Prismatic, Spherical, Distance}
 use Rattle.numbers.specs.Lists.{each}
+use Rattle.numbers.specs.Numbers.{numbers6, numberIn}
 use Rattle.card.specs.Card.{at, Card, float}
 use Rattle.card.specs.Parts.{floatAt}
 use Rattle.loader.specs.declared.body.LinkBody.{LinkBody}
 use Rattle.loader.specs.declared.header.Header.{Header}
 use Rattle.loader.specs.declared.joint.CardJoint.{CardJoint}
 use Rattle.loader.specs.declared.joint.CardJoint.the-variants.{Known, Unknown}
-use Rattle.loader.specs.Linkage.{LinkJoint, Linkage, bodyIn, fixedIn, revoluteIn, prismaticIn, sphericalIn, distanceIn, jointIn}
+use Rattle.loader.specs.Linkage.{LinkJoint, Linkage, tensorIn, bodyIn, fixedIn, revoluteIn, prismaticIn, sphericalIn, distanceIn, jointIn}
 
 unfoldable pub headerOf : Card → Header
 headerOf c =
@@ -82,6 +85,10 @@ bodyFloatsOf ns = map f32 (take 3 (drop 13 ns) ++ take 7 (drop 22 ns))
 
 abbrev pub jointFloatsOf : List ℕ → List Float
 jointFloatsOf ns = map f32 (drop 7 ns)
+
+-- a body's, with its inverse inertia turned
+abbrev pub turnedFloats : Quat → List Float → List Float
+turnedFloats q floats = let x = numberIn floats in x 0 ∷ x 1 ∷ x 2 ∷ x 3 ∷ numbers6 (turnedTensor q (tensorIn floats))
 
 -- ---- what a part stands for
 

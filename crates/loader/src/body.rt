@@ -5,10 +5,11 @@ ghost use lib.ListN.{length};
 ghost use lib.Ieee.{Float};
 ghost use mathlib.Core.List.{List};
 ghost use Rattle.loader.specs.Linkage.{tensorIn, movingInertiaIn, bodyIn};
-ghost use Rattle.loader.specs.Parts.{bodyWords, bodyFloats, wordsLength, bodyAt, Loaded};
+ghost use Rattle.loader.specs.Parts.{bodyWords, bodyFloats, wordsLength, turnedFloats, bodyAt, Loaded};
 use crate::header::Header;
 use numbers::vec3_in;
 use solver_body::SolverBodyInertia;
+use vector::Quat;
 use vector::SymmetricTensor;
 use vector::Vec3;
 
@@ -85,4 +86,22 @@ pub fn anchored_at(h: Header, words: &[u32], i: usize) -> bool
     ensures { λ r. ⌜ ((f : List Float) → r ≡ bodyAt h (now (words .entry)) f i .anchored) ⌝ }
 {
     words[BODY_WORDS * i] == 1
+}
+
+// A body's floats with its inverse inertia turned; an anchored body's is not read.
+pub fn turn_in(floats: &[f32], rotation: Quat, turned: &mut [f32])
+    requires { ⌜ (length (now floats) ≡ bodyFloats) × (length (now turned) ≡ bodyFloats) ⌝ }
+    ensures { λ _. ⌜ now (turned .exit) ≡ turnedFloats rotation (now (floats .entry)) ⌝ }
+{
+    let tensor = tensor_in(floats).turned(rotation);
+    turned[0] = floats[0];
+    turned[1] = floats[1];
+    turned[2] = floats[2];
+    turned[3] = floats[3];
+    turned[4] = tensor.xx;
+    turned[5] = tensor.xy;
+    turned[6] = tensor.xz;
+    turned[7] = tensor.yy;
+    turned[8] = tensor.yz;
+    turned[9] = tensor.zz;
 }

@@ -6,8 +6,9 @@ use lib.Ieee.{Float}
 use Rattle.scalar.specs.Scalar.{isFinite}
 use Rattle.vector.specs.declared.Vec3.{Vec3}
 use Rattle.vector.specs.declared.Quat.{Quat}
+use Rattle.vector.specs.declared.SymmetricTensor.{SymmetricTensor}
 use Rattle.numbers.specs.Lists.{all}
-use Rattle.numbers.specs.Numbers.{numbers3, numbers4}
+use Rattle.numbers.specs.Numbers.{numbers3, numbers4, numbers6}
 
 and-assoc : (a b c : Bool) → (a && (b && c)) ≡ ((a && b) && c)
 and-assoc true b c = refl
@@ -26,6 +27,9 @@ three l m n = both (l ++ m) n ∙ ap (λ (v : Bool). v && finite n) (both l m)
 
 pub four : (l m n o : List Float) → finite (l ++ m ++ n ++ o) ≡ (finite l && finite m && finite n && finite o)
 four l m n o = both (l ++ m ++ n) o ∙ ap (λ (v : Bool). v && finite o) (three l m n)
+
+pub six : (l m n o p q : List Float) → finite (l ++ m ++ n ++ o ++ p ++ q) ≡ (finite l && finite m && finite n && finite o && finite p && finite q)
+six l m n o p q = three (l ++ m ++ n ++ o) p q ∙ ap (λ (v : Bool). v && finite p && finite q) (four l m n o)
 
 pub of-vector : (v : Vec3) → (isFinite (v .x) && isFinite (v .y) && isFinite (v .z)) ≡ finite (numbers3 v)
 unfolding all
@@ -47,3 +51,17 @@ of-rotation q = go (isFinite (q .x)) (isFinite (q .y)) (isFinite (q .z)) (isFini
     go true true false d = refl
     go true false c d = refl
     go false b c d = refl
+
+pub of-tensor : (t : SymmetricTensor)
+    → (isFinite (t .xx) && isFinite (t .xy) && isFinite (t .xz) && isFinite (t .yy) && isFinite (t .yz) && isFinite (t .zz)) ≡ finite (numbers6 t)
+unfolding all
+of-tensor t = go (isFinite (t .xx)) (isFinite (t .xy)) (isFinite (t .xz)) (isFinite (t .yy)) (isFinite (t .yz)) (isFinite (t .zz))
+  where
+    go : (a b c d e f : Bool) → (a && b && c && d && e && f) ≡ (a && (b && (c && (d && (e && (f && true))))))
+    go true true true true true true = refl
+    go true true true true true false = refl
+    go true true true true false f = refl
+    go true true true false e f = refl
+    go true true false d e f = refl
+    go true false c d e f = refl
+    go false b c d e f = refl

@@ -2,6 +2,7 @@ pub mod All
 pub mod Results
 pub mod SolverBodies
 pub mod Loading
+pub mod Turning
 pub mod Turns
 pub mod Solving
 pub mod Ends

@@ -21,20 +21,22 @@ use Rattle.xpbd_joints.specs.Steps.{totals}
 use Rattle.xpbd_joints.specs.Solved.{fixedSolved, distanceSolved, revoluteSolved, prismaticSolved, sphericalSolved}
 use Rattle.xpbd_joints.proofs.Same.{fixed-is, revolute-is, prismatic-is, spherical-is, distance-is}
 use Rattle.numbers.specs.Lists.{all}
-use Rattle.numbers.specs.Numbers.{numbers3, numbers4}
+use Rattle.numbers.specs.Numbers.{numbers3, numbers4, numbers6}
 use Rattle.state.specs.State.{totalsNumbers}
 use Rattle.tick.specs.Joint.{armNumbers, preparedNumbers, solverNumbers}
 use Rattle.tick.specs.Parts.{pointNumbers, fourNumbers, runWith, jointSolved, preparedWith, testedOf}
-use Rattle.tick.proofs.All.{both, three, four}
+use Rattle.tick.proofs.All.{both, three, six}
 
 module _ (b₁ b₂ : RigidBody) (b : BodyPair) (i₁ i₂ : SolverBodyInertia) (h : Float) where
   -- the tests in two steps
-  pub tested-is : (j : Joint) → jointSolved j b₁ b₂ b i₁ i₂ h ≡ testedOf (preparedWith j b₁ b₂ b i₁ i₂ h)
+  pub tested-is : (j : Joint) → jointSolved j b₁ b₂ b i₁ i₂ h ≡ testedOf (preparedWith j b₁ b₂ b i₁ i₂ h) (i₁ .«inv_angular_inertia») (i₂ .«inv_angular_inertia»)
   unfolding testedOf preparedWith jointSolved
   tested-is j =
       let r = runWith j b₁ b₂ b i₁ i₂ h in
       λ z. record {
-        finite = four (preparedNumbers j b₁ b₂) (totalsNumbers (r .totals)) (solverNumbers (r .bodies .body1)) (solverNumbers (r .bodies .body2)) z;
+        finite =
+            six (preparedNumbers j b₁ b₂) (totalsNumbers (r .totals)) (solverNumbers (r .bodies .body1)) (solverNumbers (r .bodies .body2))
+            (numbers6 (i₁ .«inv_angular_inertia»)) (numbers6 (i₂ .«inv_angular_inertia»)) z;
         bodies = r .bodies;
         totals = r .totals;
       }

@@ -20,10 +20,11 @@ use Rattle.loader.specs.Parts.{headerOf}
 use Rattle.loader.specs.declared.header.Header.{Header}
 use Rattle.state.specs.State.{Answered, stateLength, badNumbers, startChecks, stateChecks, answered, unlessRefused}
 use Rattle.state.proofs.Answers.{first-append}
-use Rattle.tick.specs.Tick.{solved, newState, stopped}
+use Rattle.tick.specs.Tick.{turnedLinkage, solved, newState, stopped}
 use Rattle.tick.specs.Run.{Ran, tickOf, tickNext, runOf}
 use Rattle.tick.specs.Work.{ran, nextTick, ticksNext, ticksOf, ranTo, allOrNothing}
 use Rattle.tick.proofs.Ends.{new-length}
+use Rattle.tick.proofs.Turning.{bodies-turned, joints-turned}
 
 -- ---- ticks of a linkage
 
@@ -37,13 +38,13 @@ module _ (K : Linkage) (s₀ : List Float) where
     unfolding ticksOf ticksNext
     turn = sym (after-more (ticksNext K) (ran 0 0 s₀) i ∙ rw (← inv))
 
-    pub ticks-more : stopped K s ≡ false → {t : List Float} → t ≡ newState K s → ran 0 (i + 1) t ≡ ticksOf K s₀ (i + 1)
-    ticks-more f e = rw (f, ← e) at turn
+    pub ticks-more : {L : Linkage} → L ≡ turnedLinkage K s → stopped L s ≡ false → {t : List Float} → t ≡ newState L s → ran 0 (i + 1) t ≡ ticksOf K s₀ (i + 1)
+    ticks-more eL f e = rw (← eL, f, ← e) at turn
 
-    pub ticks-stop : {n : ℕ} → i < n → stopped K s ≡ true → ran 13 i s ≡ ticksOf K s₀ n
+    pub ticks-stop : {L : Linkage} → L ≡ turnedLinkage K s → {n : ℕ} → i < n → stopped L s ≡ true → ran 13 i s ≡ ticksOf K s₀ n
     unfolding ticksOf ticksNext
-    ticks-stop {n} h f =
-        let here : ran 13 i s ≡ ticksOf K s₀ (i + 1) = rw f at turn in
+    ticks-stop eL {n} h f =
+        let here : ran 13 i s ≡ ticksOf K s₀ (i + 1) = rw (← eL, f) at turn in
         here ∙ sym (after-kept (ticksNext K) (ran 0 0 s₀) (i + 1) n (omega arith) (λ m. rw (← here)))
 
   pub ticks-done : {i n : ℕ} {s : List Float} → ran 0 i s ≡ ticksOf K s₀ i → i ≤ n → n ≤ i → ranTo n i s ≡ ticksOf K s₀ n
@@ -105,9 +106,9 @@ module _ (card : List ℕ) (s : List Float) where
         tick-by true new = rw (stop-first true)
         tick-by false new = rw (stop-first false)
 
-        pub tick-passed : let K = linkageOf (cardOf card) in tickOf card s ≡ answered (if stopped K s then 13 else 0) (if stopped K s then s else newState K s)
+        pub tick-passed : let K = turnedLinkage (linkageOf (cardOf card)) s in tickOf card s ≡ answered (if stopped K s then 13 else 0) (if stopped K s then s else newState K s)
         unfolding tickOf
-        tick-passed = let K = linkageOf (cardOf card) in tick-by (stopped K s) (newState K s)
+        tick-passed = let K = turnedLinkage (linkageOf (cardOf card)) s in tick-by (stopped K s) (newState K s)
 
 -- ---- a run
 
@@ -129,17 +130,23 @@ module _ (card : List ℕ) (z : checkOf card ≡ 0) where
   abbrev Good : List Float → Type 0
   Good s = (length s ≡ stateLength (length (cardOf card .bodies)) (length (cardOf card .joints))) × (badNumbers (length (cardOf card .bodies)) s ≡ false)
 
-  bodies-is : length (K .bodies) ≡ length (cardOf card .bodies)
-  unfolding linkageOf
-  bodies-is = length-map (cardOf card .bodies) bodyOf
+  -- at a state's poses
+  abbrev turned : List Float → Linkage
+  turned s = turnedLinkage K s
 
-  joints-is : length (K .joints) ≡ length (cardOf card .joints)
+  bodies-is : (s : List Float) → length (turned s .bodies) ≡ length (cardOf card .bodies)
   unfolding linkageOf
-  joints-is = length-map (cardOf card .joints) jointOf
+  bodies-is s = bodies-turned K s ∙ length-map (cardOf card .bodies) bodyOf
 
-  good-next : (s : List Float) → stopped K s ≡ false → Good (newState K s)
+  joints-is : (s : List Float) → length (turned s .joints) ≡ length (cardOf card .joints)
+  unfolding linkageOf
+  joints-is s = ap length (joints-turned K s) ∙ length-map (cardOf card .joints) jointOf
+
+  good-next : (s : List Float) → stopped (turned s) s ≡ false → Good (newState (turned s) s)
   unfolding stopped
-  good-next s e = (new-length K s ∙ rw (bodies-is, joints-is), rw bodies-is at (or-second (not (solved K s .finite)) (badNumbers (length (K .bodies)) (newState K s)) e))
+  good-next s e =
+      let L = turned s in
+      (new-length L s ∙ rw (bodies-is s, joints-is s), rw (bodies-is s) at (or-second (not (solved L s .finite)) (badNumbers (length (L .bodies)) (newState L s)) e))
 
   -- a tick of the card is a tick of its linkage
   next-by : (b : Bool) (i : ℕ) (s new : List Float)
@@ -150,7 +157,7 @@ module _ (card : List ℕ) (z : checkOf card ≡ 0) where
 
   next-same : (i : ℕ) (a : Ran) → a .number ≡ 0 → Good (a .state) → tickNext card i a ≡ ticksNext K i a
   unfolding tickNext ticksNext
-  next-same i a e g = rw (e, tick-passed card (a .state) z (g .0) (g .1)) (next-by (stopped K (a .state)) (a .ticks) (a .state) (newState K (a .state)))
+  next-same i a e g = rw (e, tick-passed card (a .state) z (g .0) (g .1)) (next-by (stopped (turned (a .state)) (a .state)) (a .ticks) (a .state) (newState (turned (a .state)) (a .state)))
 
   kept-same : (i : ℕ) (a : Ran) → (a .number ≡ 0 → ⊥) → tickNext card i a ≡ ticksNext K i a
   unfolding tickNext ticksNext
@@ -171,12 +178,14 @@ module _ (card : List ℕ) (z : checkOf card ≡ 0) where
   unfolding ticksNext
   next-good i a g e = by-number (a .number) refl
     where
-      by-stop : (b : Bool) → stopped K (a .state) ≡ b → (if b then ran 13 (a .ticks) (a .state) else ran 0 (a .ticks + 1) (newState K (a .state))) .number ≡ 0 → Good ((if b then ran 13 (a .ticks) (a .state) else ran 0 (a .ticks + 1) (newState K (a .state))) .state)
+      by-stop : (b : Bool) → stopped (turned (a .state)) (a .state) ≡ b
+          → let r = if b then ran 13 (a .ticks) (a .state) else ran 0 (a .ticks + 1) (newState (turned (a .state)) (a .state)) in
+          r .number ≡ 0 → Good (r .state)
       by-stop true q n = absurd (omega (arith, n))
       by-stop false q n = good-next (a .state) q
 
       by-number : (n : ℕ) → a .number ≡ n → Good (ticksNext K i a .state)
-      by-number zero q = rw q (by-stop (stopped K (a .state)) refl (rw q at e))
+      by-number zero q = rw q (by-stop (stopped (turned (a .state)) (a .state)) refl (rw q at e))
       by-number (suc n) q = never (kept-is i a (λ z. omega (arith, z, q)))
         where
           never : ticksNext K i a ≡ a → Good (ticksNext K i a .state)
@@ -211,7 +220,7 @@ module _ (card : List ℕ) (s : List Float) where
   -- the first tick is refused
   refused-by : {k : ℕ} → firstOf (stateChecks card s) ≡ k → (k ≡ 0 → ⊥) → tickOf card s ≡ answered k s
   unfolding tickOf
-  refused-by {k} e x = rw (refused-first (stopped (linkageOf (cardOf card)) s) e x, ne-eqb k 0 x)
+  refused-by {k} e x = rw (refused-first (stopped (turnedLinkage (linkageOf (cardOf card)) s) s) e x, ne-eqb k 0 x)
 
   pub tick-refused : firstOf (startChecks card s) ≡ 0 → {k : ℕ} → firstOf (stateChecks card s) ≡ k → (k ≡ 0 → ⊥) → {n : ℕ} → 0 < n → ran k 0 s ≡ runOf card s n
   unfolding runOf tickNext
@@ -227,7 +236,8 @@ module _ (card : List ℕ) (s : List Float) where
 
   tick-kept : (if eqb (tickOf card s .number) 0 then tickOf card s .state else s) ≡ tickOf card s .state
   unfolding tickOf
-  tick-kept = tick-state (firstOf (stateChecks card s ++ (refuse 13 (stopped (linkageOf (cardOf card)) s) ∷ []))) (newState (linkageOf (cardOf card)) s)
+  tick-kept =
+      let L = turnedLinkage (linkageOf (cardOf card)) s in tick-state (firstOf (stateChecks card s ++ (refuse 13 (stopped L s) ∷ []))) (newState L s)
 
   either : (b : Bool) (t : Answered)
       → (let r = if b then ran (t .number) 1 (t .state) else ran (t .number) 0 (t .state) in answered (r .number) (if eqb (r .number) 0 then r .state else s))

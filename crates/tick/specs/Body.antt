@@ -3,6 +3,7 @@ use lib.Ieee.{Float, lt}
 use Rattle.scalar.specs.Arith.{if_then_else_, _⊕_, _⊗_, f0, f2}
 use Rattle.vector.specs.Vector.{addOf, subOf, negOf, scaleOf, divOf}
 use Rattle.vector.specs.Rotation.{vectorPart, productOf, inverseOf, turnOf, normalized, ofScaledAxis}
+use Rattle.vector.specs.Matrix.{turnedTensor}
 use Rattle.vector.specs.declared.Vec3.{Vec3}
 use Rattle.vector.specs.declared.Quat.{Quat}
 use Rattle.solver_body.specs.Body.{unlocked}
@@ -10,6 +11,20 @@ use Rattle.solver_body.specs.declared.BodyState.{BodyState}
 use Rattle.solver_body.specs.declared.RigidBody.{RigidBody}
 use Rattle.solver_body.specs.declared.SolverBody.{SolverBody}
 use Rattle.solver_body.specs.declared.SolverBodyInertia.{SolverBodyInertia}
+use Rattle.loader.specs.declared.body.LinkBody.{LinkBody}
+
+-- I⁻¹ = R I₀⁻¹ Rᵀ, with R of the rotation q as the tick finds it; an anchored body keeps the dummy's
+unfoldable pub turnedBody : Quat → LinkBody → LinkBody
+turnedBody q b =
+    let i = b .inertia in
+    let turned : SolverBodyInertia = record {
+      «inv_mass» = i .«inv_mass»;
+      «inv_angular_inertia» = turnedTensor q (i .«inv_angular_inertia»);
+      «translation_x_locked» = i .«translation_x_locked»;
+      «translation_y_locked» = i .«translation_y_locked»;
+      «translation_z_locked» = i .«translation_z_locked»;
+    } in
+    record { anchored = b .anchored; inertia = if b .anchored then i else turned; «center_of_mass» = b .«center_of_mass» }
 
 -- gravity g along y for the time h, then locked linear velocities zero; the deltas are v h and the scaled axis of ω h
 unfoldable pub integrated : SolverBody → SolverBodyInertia → Float → Float → SolverBody

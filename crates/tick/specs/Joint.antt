@@ -8,10 +8,11 @@ use Rattle.joints.specs.declared.Joint.{Joint}
 use Rattle.joints.specs.declared.Joint.the-variants.{Fixed, Revolute, Prismatic, Spherical, Distance}
 use Rattle.solver_body.specs.declared.RigidBody.{RigidBody}
 use Rattle.solver_body.specs.declared.SolverBody.{SolverBody}
+use Rattle.solver_body.specs.declared.SolverBodyInertia.{SolverBodyInertia}
 use Rattle.xpbd.specs.Positional.{anchorArm, centerDifference}
 use Rattle.xpbd_joints.specs.Prepared.{offset, axisIn, matrixArm, matrixAxis}
 use Rattle.xpbd_joints.specs.Steps.{Run}
-use Rattle.numbers.specs.Numbers.{numbers3, numbers4}
+use Rattle.numbers.specs.Numbers.{numbers3, numbers4, numbers6}
 use Rattle.state.specs.State.{totalsNumbers}
 
 -- two arms and the difference of the centres
@@ -41,6 +42,9 @@ preparedNumbers (Distance j) b₁ b₂ = arms b₁ b₂ (j .anchor1) (j .anchor2
 abbrev pub solverNumbers : SolverBody → List Float
 solverNumbers b = numbers3 (b .«linear_velocity») ++ numbers3 (b .«angular_velocity») ++ numbers3 (b .«delta_position») ++ numbers4 (b .«delta_rotation»)
 
--- of a joint between bodies that began at b₁ and b₂: what it prepared, its totals, and both bodies
-abbrev pub lookedAt : Joint → RigidBody → RigidBody → Run → List Float
-lookedAt j b₁ b₂ r = preparedNumbers j b₁ b₂ ++ totalsNumbers (r .totals) ++ solverNumbers (r .bodies .body1) ++ solverNumbers (r .bodies .body2)
+-- of a joint between bodies that began at b₁ and b₂: what it prepared, its totals, both bodies, and their inverse inertias
+abbrev pub lookedAt : Joint → RigidBody → RigidBody → SolverBodyInertia → SolverBodyInertia → Run → List Float
+lookedAt j b₁ b₂ i₁ i₂ r =
+    preparedNumbers j b₁ b₂ ++ totalsNumbers (r .totals) ++ solverNumbers (r .bodies .body1) ++ solverNumbers (r .bodies .body2)
+    ++ numbers6 (i₁ .«inv_angular_inertia»)
+    ++ numbers6 (i₂ .«inv_angular_inertia»)

@@ -7,6 +7,7 @@ use Rattle.vector.specs.Vector.{addOf, subOf, divOf}
 use Rattle.vector.specs.Rotation.{productOf, inverseOf}
 use Rattle.vector.specs.declared.Vec3.{Vec3}
 use Rattle.vector.specs.declared.Quat.{Quat}
+use Rattle.vector.specs.declared.SymmetricTensor.{SymmetricTensor}
 use Rattle.joints.specs.declared.Joint.{Joint}
 use Rattle.solver_body.specs.Body.{unlocked, withVelocity}
 use Rattle.solver_body.specs.declared.RigidBody.{RigidBody}
@@ -14,7 +15,7 @@ use Rattle.solver_body.specs.declared.SolverBody.{SolverBody}
 use Rattle.solver_body.specs.declared.SolverBodyInertia.{SolverBodyInertia}
 use Rattle.solver_body.specs.declared.BodyPair.{BodyPair}
 use Rattle.xpbd.specs.declared.point_constraint.PointConstraintShared.{PointConstraintShared}
-use Rattle.numbers.specs.Numbers.{numbers3}
+use Rattle.numbers.specs.Numbers.{numbers3, numbers6}
 use Rattle.xpbd_joints.specs.Steps.{noTotals, stepsOf, Run, run, warmed}
 use Rattle.xpbd_joints.specs.Solved.{settingOf}
 use Rattle.xpbd_joints.specs.declared.JointTotals.{JointTotals}
@@ -59,15 +60,15 @@ abbrev pub fourNumbers : Vec3 → Vec3 → Vec3 → Vec3 → List Float
 fourNumbers a₁ a₂ b₁ b₂ = numbers3 a₁ ++ numbers3 a₂ ++ numbers3 b₁ ++ numbers3 b₂
 
 -- what a tick keeps of a joint's solve
-abbrev pub resultOf : Joint → RigidBody → RigidBody → Run → JointResult
-resultOf j b₁ b₂ r = record { finite = all isFinite (lookedAt j b₁ b₂ r); bodies = r .bodies; totals = r .totals }
+abbrev pub resultOf : Joint → RigidBody → RigidBody → SolverBodyInertia → SolverBodyInertia → Run → JointResult
+resultOf j b₁ b₂ i₁ i₂ r = record { finite = all isFinite (lookedAt j b₁ b₂ i₁ i₂ r); bodies = r .bodies; totals = r .totals }
 
 -- a joint's solve, from totals of zero
 abbrev pub runWith : Joint → RigidBody → RigidBody → BodyPair → SolverBodyInertia → SolverBodyInertia → Float → Run
 runWith j b₁ b₂ b i₁ i₂ h = run (settingOf i₁ i₂ h) (stepsOf j b₁ b₂) (record { bodies = b; totals = noTotals })
 
 unfoldable pub jointSolved : Joint → RigidBody → RigidBody → BodyPair → SolverBodyInertia → SolverBodyInertia → Float → JointResult
-jointSolved j b₁ b₂ b i₁ i₂ h = resultOf j b₁ b₂ (runWith j b₁ b₂ b i₁ i₂ h)
+jointSolved j b₁ b₂ b i₁ i₂ h = resultOf j b₁ b₂ i₁ i₂ (runWith j b₁ b₂ b i₁ i₂ h)
 
 -- the same in two steps, the first by kind: only what was prepared is tested
 unfoldable pub preparedWith : Joint → RigidBody → RigidBody → BodyPair → SolverBodyInertia → SolverBodyInertia → Float → JointResult
@@ -75,10 +76,13 @@ preparedWith j b₁ b₂ b i₁ i₂ h =
     let r = runWith j b₁ b₂ b i₁ i₂ h in
     record { finite = all isFinite (preparedNumbers j b₁ b₂); bodies = r .bodies; totals = r .totals }
 
-unfoldable pub testedOf : JointResult → JointResult
-testedOf r =
+unfoldable pub testedOf : JointResult → SymmetricTensor → SymmetricTensor → JointResult
+testedOf r t₁ t₂ =
     record {
-      finite = r .finite && all isFinite (totalsNumbers (r .totals)) && all isFinite (solverNumbers (r .bodies .body1)) && all isFinite (solverNumbers (r .bodies .body2));
+      finite =
+          r .finite && all isFinite (totalsNumbers (r .totals)) && all isFinite (solverNumbers (r .bodies .body1)) && all isFinite (solverNumbers (r .bodies .body2))
+          && all isFinite (numbers6 t₁)
+          && all isFinite (numbers6 t₂);
       bodies = r .bodies;
       totals = r .totals;
     }

@@ -9,10 +9,10 @@ use Rattle.card.specs.Card.{cardOf}
 use Rattle.card.specs.Checks.{refuse, firstOf}
 use Rattle.loader.specs.Linkage.{linkageOf}
 use Rattle.state.specs.State.{startChecks, stateChecks, Answered, unlessRefused}
-use Rattle.tick.specs.Tick.{newState, stopped}
+use Rattle.tick.specs.Tick.{turnedLinkage, newState, stopped}
 
 unfoldable pub tickOf : List ℕ → List Float → Answered
-tickOf bytes s = let K = linkageOf (cardOf bytes) in unlessRefused (stateChecks bytes s ++ (refuse 13 (stopped K s) ∷ [])) s (newState K s)
+tickOf bytes s = let K = turnedLinkage (linkageOf (cardOf bytes)) s in unlessRefused (stateChecks bytes s ++ (refuse 13 (stopped K s) ∷ [])) s (newState K s)
 
 -- the number that a run answers, the ticks done before a refusal, and the state
 pub record Ran : Type 0 where

@@ -18,7 +18,7 @@ use Rattle.numbers.specs.Lists.{all, each, after}
 use Rattle.loader.specs.Linkage.{LinkJoint, Linkage, bodyOf, jointOf}
 use Rattle.loader.specs.declared.body.LinkBody.{LinkBody}
 use Rattle.state.specs.State.{bodyAt, totalsAt, stateOf, badNumbers}
-use Rattle.tick.specs.Body.{integrated, finishedBody}
+use Rattle.tick.specs.Body.{turnedBody, integrated, finishedBody}
 use Rattle.tick.specs.Joint.{lookedAt}
 
 -- the solver's bodies and the joints' totals after the joints so far, and whether all numbers looked at were finite
@@ -61,6 +61,12 @@ module _ (K : Linkage) where
   setting motors j =
       record { dt = K .dt; motors = motors; inertia1 = body (joint j .body1) .inertia; inertia2 = body (joint j .body2) .inertia }
 
+-- a linkage's bodies as a tick from s has them, their inertias turned once
+unfoldable pub turnedLinkage : Linkage → List Float → Linkage
+turnedLinkage K s =
+    let bodies = each (λ i. turnedBody (bodyAt s i .rotation) (body K i)) (length (K .bodies)) in
+    record { dt = K .dt; gravity = K .gravity; «warm_coefficient» = K .«warm_coefficient»; bodies = bodies; joints = K .joints }
+
 module _ (K : Linkage) (s : List Float) where
   -- the pose is the state's, an anchored body's too
   abbrev pub rigid : ℕ → RigidBody
@@ -100,7 +106,9 @@ module _ (K : Linkage) (s : List Float) where
 
   -- what refusal 13 looks at then
   abbrev pub looked : ℕ → Run → List Float
-  looked j r = let k = joint K j in lookedAt (k .joint) (rigid (k .body1)) (rigid (k .body2)) r
+  looked j r =
+      let k = joint K j in
+      lookedAt (k .joint) (rigid (k .body1)) (rigid (k .body2)) (body K (k .body1) .inertia) (body K (k .body2) .inertia) r
 
   unfoldable pub solveNext : Bool → ℕ → Solved → Solved
   solveNext motors j σ =

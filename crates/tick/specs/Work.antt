@@ -12,12 +12,13 @@ use Rattle.solver_body.specs.declared.SolverBody.{SolverBody}
 use Rattle.xpbd_joints.specs.Steps.{Run}
 use Rattle.tick.specs.Parts.{resultOf}
 use Rattle.tick.specs.declared.joint.JointResult.{JointResult}
-use Rattle.numbers.specs.Lists.{each, after}
+use Rattle.numbers.specs.Lists.{concat, each, after}
 use Rattle.numbers.specs.Numbers.{vec3In, quatIn}
 use Rattle.loader.specs.Linkage.{Linkage}
+use Rattle.loader.specs.Parts.{bodyPartFloats, turnedFloats}
 use Rattle.loader.specs.declared.header.Header.{Header}
 use Rattle.state.specs.State.{bodyNumbers, stateLength, bodyAt, totalsAt}
-use Rattle.tick.specs.Tick.{Solved, body, joint, rigid, newState, stopped}
+use Rattle.tick.specs.Tick.{Solved, body, joint, rigid, turnedLinkage, newState, stopped}
 use Rattle.tick.specs.Run.{Ran}
 
 -- ---- the solver's bodies
@@ -39,11 +40,18 @@ bodiesIn h w = each (solverBodyAt w) (h .bodies)
 unfoldable pub loadedBody : Linkage → List Float → ℕ → SolverBody
 loadedBody K s i = if body K i .anchored then dummyBody else solverBodyOf (bodyAt s i)
 
+-- ---- the bodies' floats, their inertias turned from their own axes
+
+unfoldable pub turnedBodies : Header → List Float → List Float → List Float
+turnedBodies h own s = concat (each (λ i. turnedFloats (bodyAt s i .rotation) (bodyPartFloats own i)) (h .bodies))
+
 -- ---- a joint
 
 -- joint j's
 abbrev pub resultAt : Linkage → List Float → ℕ → Run → JointResult
-resultAt K s j r = let k = joint K j in resultOf (k .joint) (rigid K s (k .body1)) (rigid K s (k .body2)) r
+resultAt K s j r =
+    let k = joint K j in
+    resultOf (k .joint) (rigid K s (k .body1)) (rigid K s (k .body2)) (body K (k .body1) .inertia) (body K (k .body2) .inertia) r
 
 -- ---- the solve
 
@@ -63,7 +71,8 @@ abbrev pub ran : ℕ → ℕ → List Float → Ran
 ran n ticks s = record { number = n; ticks = ticks; state = s }
 
 abbrev pub nextTick : Linkage → Ran → Ran
-nextTick K a = if stopped K (a .state) then ran 13 (a .ticks) (a .state) else ran 0 (a .ticks + 1) (newState K (a .state))
+nextTick K a =
+    let L = turnedLinkage K (a .state) in if stopped L (a .state) then ran 13 (a .ticks) (a .state) else ran 0 (a .ticks + 1) (newState L (a .state))
 
 unfoldable pub ticksNext : Linkage → ℕ → Ran → Ran
 ticksNext K i a = if eqb (a .number) 0 then nextTick K a else a

@@ -9,6 +9,7 @@ ghost use Rattle.tick.specs.Joint.{armNumbers};
 ghost use Rattle.tick.specs.Parts.{pointNumbers, fourNumbers, preparedWith, testedOf, jointWarmed, jointSolved};
 use crate::finite::body_finite;
 use crate::finite::quat_finite;
+use crate::finite::tensor_finite;
 use crate::finite::vec3_finite;
 use joints::Joint;
 use joints::distance::DistanceJoint;
@@ -19,6 +20,7 @@ use joints::spherical::SphericalJoint;
 use solver_body::BodyPair;
 use solver_body::RigidBody;
 use solver_body::SolverBodyInertia;
+use vector::SymmetricTensor;
 use vector::Vec3;
 use xpbd::point_constraint::PointConstraintShared;
 use xpbd_joints::JointTotals;
@@ -287,9 +289,9 @@ fn solve_by_kind(
     }
 }
 
-// With the test of the totals and the bodies.
-fn tested(solved: JointResult) -> JointResult
-    ensures { λ r. ⌜ r ≡ testedOf solved ⌝ }
+// With the test of the totals, the bodies and their inverse inertias.
+fn tested(solved: JointResult, tensor1: SymmetricTensor, tensor2: SymmetricTensor) -> JointResult
+    ensures { λ r. ⌜ r ≡ testedOf solved tensor1 tensor2 ⌝ }
 {
     let bodies = solved.bodies;
     let totals = solved.totals;
@@ -297,7 +299,9 @@ fn tested(solved: JointResult) -> JointResult
         finite: solved.finite
             & totals_finite(totals)
             & body_finite(bodies.body1)
-            & body_finite(bodies.body2),
+            & body_finite(bodies.body2)
+            & tensor_finite(tensor1)
+            & tensor_finite(tensor2),
         bodies,
         totals,
     }
@@ -354,5 +358,10 @@ pub fn solve_joint(
     requires { ⌜ EachAngleLimit InReach joint ⌝ }
     ensures { λ r. ⌜ r ≡ jointSolved joint body1 body2 bodies inertia1 inertia2 dt ⌝ }
 {
-    tested(solve_by_kind(joint, body1, body2, bodies, inertia1, inertia2, dt))
+    let solved = solve_by_kind(joint, body1, body2, bodies, inertia1, inertia2, dt);
+    tested(
+        solved,
+        inertia1.inv_angular_inertia,
+        inertia2.inv_angular_inertia,
+    )
 }

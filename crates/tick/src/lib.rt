@@ -5,4 +5,5 @@ pub mod joint;
 mod linked;
 pub mod run;
 mod steps;
+mod turn;
 mod work;

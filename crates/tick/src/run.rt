@@ -1,7 +1,7 @@
 // Ticks: one, and several in a row. Each call is all or nothing.
 ghost use mathlib.Core.Path.{_≡_};
 ghost use Prim.Native.Nat.{_+_, _*_, _≤_};
-ghost use lib.ListN.{length};
+ghost use lib.ListN.{length, take};
 ghost use Rattle.card.specs.Answer.{numberOf};
 ghost use Rattle.card.specs.Card.{cardOf};
 ghost use Rattle.card.specs.Checks.{checkOf};
@@ -11,6 +11,7 @@ ghost use Rattle.state.specs.State.{answered};
 ghost use Rattle.tick.specs.Run.{tickOf, runOf};
 ghost use Rattle.tick.specs.Work.{ran, ranTo, allOrNothing, ticksOf, StateOf, BodiesOf};
 use crate::steps::tick_accepted;
+use crate::turn::turn_bodies;
 use card::answer::Answer;
 use card::checks::check;
 use loader::body::BODY_FLOATS;
@@ -32,22 +33,24 @@ pub struct RunAnswer {
     pub ticks: u32,
 }
 
-// Ticks in a row up to the first that is stopped; how many were done.
+// Ticks in a row up to the first that is stopped; how many were done. Each turns the bodies' inertias from their own axes, which `own` keeps.
 fn run_ticks(
     h: Header,
     words: &[u32],
-    floats: &[f32],
+    own: &[f32],
+    floats: &mut [f32],
     state: &mut [f32],
     ticks: u32,
     bodies: &mut [f32],
     pre_solve: &mut [f32],
     new: &mut [f32],
 ) -> u32
-    requires { ⌜ Loaded h (now words) (now floats) × StateOf h (now state) × BodiesOf h (now bodies) × BodiesOf h (now «pre_solve») × StateOf h (now new) ⌝ }
+    requires { ⌜ Loaded h (now words) (now floats) × (now own ≡ take (bodyFloats * h .bodies) (now floats)) × StateOf h (now state) × BodiesOf h (now bodies) × BodiesOf h (now «pre_solve») × StateOf h (now new) ⌝ }
     ensures { λ r. ⌜ ranTo ticks r (now (state .exit)) ≡ ticksOf (linkageIn h (now (words .entry)) (now (floats .entry))) (now (state .entry)) ticks ⌝ }
 {
     let mut done = 0;
     while done < ticks {
+        turn_bodies(h, own, state, floats);
         if tick_accepted(h, words, floats, state, bodies, pre_solve, new) {
             return done;
         }
@@ -64,18 +67,20 @@ fn run_copy(
     state: &mut [f32],
     ticks: u32,
     words: &mut [u32],
+    own: &mut [f32],
     floats: &mut [f32],
     bodies: &mut [f32],
     pre_solve: &mut [f32],
     copied: &mut [f32],
     new: &mut [f32],
 ) -> RunAnswer
-    requires { ⌜ (checkOf (now card) ≡ 0) × (h ≡ headerOf (cardOf (now card))) × StateOf h (now state) × (length (now words) ≡ bodyWords * h .bodies + jointWords * h .joints) × (length (now floats) ≡ bodyFloats * h .bodies + jointFloats * h .joints) × BodiesOf h (now bodies) × BodiesOf h (now «pre_solve») × StateOf h (now copied) × StateOf h (now new) ⌝ }
+    requires { ⌜ (checkOf (now card) ≡ 0) × (h ≡ headerOf (cardOf (now card))) × StateOf h (now state) × (length (now words) ≡ bodyWords * h .bodies + jointWords * h .joints) × (length (now own) ≡ bodyFloats * h .bodies) × (length (now floats) ≡ bodyFloats * h .bodies + jointFloats * h .joints) × BodiesOf h (now bodies) × BodiesOf h (now «pre_solve») × StateOf h (now copied) × StateOf h (now new) ⌝ }
     ensures { λ r. ⌜ ran (numberOf (r .answer)) (r .ticks) (now (state .exit)) ≡ allOrNothing (now (state .entry)) (ticksOf (linkageOf (cardOf (now (card .entry)))) (now (state .entry)) ticks) ⌝ }
 {
     load(card, h, words, floats);
+    copy(&floats[..BODY_FLOATS * h.bodies], own);
     copy(state, copied);
-    let done = run_ticks(h, words, floats, copied, ticks, bodies, pre_solve, new);
+    let done = run_ticks(h, words, own, floats, copied, ticks, bodies, pre_solve, new);
     if done < ticks {
         return RunAnswer {
             answer: Answer::Stopped,
@@ -99,13 +104,15 @@ fn run_few(card: &[u8], h: Header, state: &mut [f32], ticks: u32) -> RunAnswer
     ensures { λ r. ⌜ ran (numberOf (r .answer)) (r .ticks) (now (state .exit)) ≡ allOrNothing (now (state .entry)) (ticksOf (linkageOf (cardOf (now (card .entry)))) (now (state .entry)) ticks) ⌝ }
 {
     let mut words = [0; BODY_WORDS * FEW + JOINT_WORDS * FEW];
+    let mut own = [0.0; BODY_FLOATS * FEW];
     let mut floats = [0.0; BODY_FLOATS * FEW + JOINT_FLOATS * FEW];
     let mut bodies = [0.0; BODY_NUMBERS * FEW];
     let mut pre_solve = [0.0; BODY_NUMBERS * FEW];
     let mut copied = [0.0; BODY_NUMBERS * FEW + JOINT_NUMBERS * FEW];
     let mut new = [0.0; BODY_NUMBERS * FEW + JOINT_NUMBERS * FEW];
     let w = BODY_WORDS * h.bodies + JOINT_WORDS * h.joints;
-    let f = BODY_FLOATS * h.bodies + JOINT_FLOATS * h.joints;
+    let o = BODY_FLOATS * h.bodies;
+    let f = o + JOINT_FLOATS * h.joints;
     let b = BODY_NUMBERS * h.bodies;
     let n = state_length(h.bodies, h.joints);
     run_copy(
@@ -114,6 +121,7 @@ fn run_few(card: &[u8], h: Header, state: &mut [f32], ticks: u32) -> RunAnswer
         state,
         ticks,
         &mut words[..w],
+        &mut own[..o],
         &mut floats[..f],
         &mut bodies[..b],
         &mut pre_solve[..b],
@@ -127,13 +135,15 @@ fn run_many(card: &[u8], h: Header, state: &mut [f32], ticks: u32) -> RunAnswer
     ensures { λ r. ⌜ ran (numberOf (r .answer)) (r .ticks) (now (state .exit)) ≡ allOrNothing (now (state .entry)) (ticksOf (linkageOf (cardOf (now (card .entry)))) (now (state .entry)) ticks) ⌝ }
 {
     let mut words = [0; BODY_WORDS * MOST + JOINT_WORDS * MOST];
+    let mut own = [0.0; BODY_FLOATS * MOST];
     let mut floats = [0.0; BODY_FLOATS * MOST + JOINT_FLOATS * MOST];
     let mut bodies = [0.0; BODY_NUMBERS * MOST];
     let mut pre_solve = [0.0; BODY_NUMBERS * MOST];
     let mut copied = [0.0; BODY_NUMBERS * MOST + JOINT_NUMBERS * MOST];
     let mut new = [0.0; BODY_NUMBERS * MOST + JOINT_NUMBERS * MOST];
     let w = BODY_WORDS * h.bodies + JOINT_WORDS * h.joints;
-    let f = BODY_FLOATS * h.bodies + JOINT_FLOATS * h.joints;
+    let o = BODY_FLOATS * h.bodies;
+    let f = o + JOINT_FLOATS * h.joints;
     let b = BODY_NUMBERS * h.bodies;
     let n = state_length(h.bodies, h.joints);
     run_copy(
@@ -142,6 +152,7 @@ fn run_many(card: &[u8], h: Header, state: &mut [f32], ticks: u32) -> RunAnswer
         state,
         ticks,
         &mut words[..w],
+        &mut own[..o],
         &mut floats[..f],
         &mut bodies[..b],
         &mut pre_solve[..b],

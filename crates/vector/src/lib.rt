@@ -13,7 +13,7 @@ ghost use Rattle.scalar.specs.Arith.{_⊗_, half};
 ghost use Rattle.scalar.specs.Scalar.{absOf};
 ghost use Rattle.trig.specs.Sine.{sixteen};
 ghost use Rattle.vector.specs.Vector.{addOf, subOf, negOf, scaleOf, timesOf, divOf, dotOf, crossOf, lengthSquaredOf, lengthOf, maxElement, clampLengthMax, signum, anyOrthonormal, anyOrthogonal};
-ghost use Rattle.vector.specs.Matrix.{tensorTimes, ofQuat, matrixTimes};
+ghost use Rattle.vector.specs.Matrix.{tensorTimes, ofQuat, matrixTimes, transposeOf, turnedTensor};
 ghost use Rattle.vector.specs.Rotation.{productOf, inverseOf, vectorPart, turnOf, normSquaredOf, normOf, dividedBy, normalized, ofHalf, ofAxisAngle, ofAngleInReach, ofScaledAxis};
 
 pub struct Vec3 {
@@ -214,6 +214,24 @@ impl SymmetricTensor {
             z: self.xz * v.x + self.yz * v.y + self.zz * v.z,
         }
     }
+
+    // R T Rᵀ, with R the rotation's matrix and the left product first.
+    pub fn turned(self, rotation: Quat) -> SymmetricTensor
+        ensures { λ r. ⌜ r ≡ turnedTensor rotation self ⌝ }
+    {
+        let rows = Mat3::from_quat(rotation).transpose();
+        let m1 = self.mul_vec3(rows.x_axis);
+        let m2 = self.mul_vec3(rows.y_axis);
+        let m3 = self.mul_vec3(rows.z_axis);
+        SymmetricTensor {
+            xx: m1.dot(rows.x_axis),
+            xy: m1.dot(rows.y_axis),
+            xz: m1.dot(rows.z_axis),
+            yy: m2.dot(rows.y_axis),
+            yz: m2.dot(rows.z_axis),
+            zz: m3.dot(rows.z_axis),
+        }
+    }
 }
 
 impl Quat {
@@ -365,5 +383,30 @@ impl Mat3 {
             .scale(v.x)
             .add(self.y_axis.scale(v.y))
             .add(self.z_axis.scale(v.z))
+    }
+
+    pub fn transpose(self) -> Mat3
+        ensures { λ r. ⌜ r ≡ transposeOf self ⌝ }
+    {
+        let x = self.x_axis;
+        let y = self.y_axis;
+        let z = self.z_axis;
+        Mat3 {
+            x_axis: Vec3 {
+                x: x.x,
+                y: y.x,
+                z: z.x,
+            },
+            y_axis: Vec3 {
+                x: x.y,
+                y: y.y,
+                z: z.y,
+            },
+            z_axis: Vec3 {
+                x: x.z,
+                y: y.z,
+                z: z.z,
+            },
+        }
     }
 }

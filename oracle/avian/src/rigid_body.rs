@@ -13,7 +13,7 @@ pub enum RigidBodyActiveFilter {}
 #[derive(Clone, Copy, Debug)]
 pub struct ComputedCenterOfMass(pub Vector);
 
-/// The card's inverse inertia is in world axes and stays as it is.
+/// The inverse inertia of a tick is handed over turned, and stays so through its stages.
 pub enum ComputedAngularInertia {}
 
 impl ComputedAngularInertia {

@@ -4,7 +4,9 @@
 
 use oracle::card::{Body, Card, Joint, BALL, HINGE, SLIDE, TETHER};
 use oracle::generate::held;
-use std::{env, f32::consts::FRAC_PI_2, fs, path::Path, process};
+use std::f32::consts::FRAC_PI_2;
+use std::f64::consts::{FRAC_1_SQRT_2, FRAC_PI_4};
+use std::{env, fs, path::Path, process};
 
 type Point = [f64; 2];
 
@@ -156,6 +158,28 @@ fn chain() -> Card {
     card(-9.81, bodies, joints)
 }
 
+/// A rod of 2 and radius 0.05 on a ball joint at its end, let go half a radian from the vertical across the plane. Its x axis is along it.
+fn rod() -> Card {
+    let (length, radius, angle) = (2f64, 0.05f64, 0.5f64);
+    let along = 2.0 / (radius * radius);
+    let across = 12.0 / (3.0 * radius * radius + length * length);
+    let middle = [0.0, -angle.cos(), angle.sin()].map(|x| x * length / 2.0);
+    // A quarter turn takes x to z, and one about x takes that to the rod's direction.
+    let (sine, cosine) = (FRAC_PI_4 - angle / 2.0).sin_cos();
+    let rotation = [sine, -cosine, -sine, cosine].map(|x| x * FRAC_1_SQRT_2);
+    let rod = Body {
+        position: middle.map(|x| x as f32),
+        rotation: rotation.map(|x| x as f32),
+        inv_inertia: [along, 0.0, 0.0, across, 0.0, across].map(|x| x as f32),
+        ..Body::UNIT
+    };
+    let joint = Joint {
+        anchor2: [-length as f32 / 2.0, 0.0, 0.0],
+        ..Joint::plain(BALL, 0, 1)
+    };
+    card(-9.81, vec![frame(), rod], vec![joint])
+}
+
 /// Chebyshev's lambda linkage: pivots 2 apart, a crank of 1, a rocker of 2.5 and a coupler of 5, whose far end moves along a nearly straight line.
 fn chebyshev() -> Card {
     let (o, q, a) = ([0.0, 0.0], [2.0, 0.0], [1.0, 0.0]);
@@ -204,6 +228,7 @@ fn main() {
         ("tether", tether()),
         ("stop", stop()),
         ("right_angle", held(HINGE, FRAC_PI_2)),
+        ("rod", rod()),
     ];
     for (name, card) in cards {
         let path = Path::new(&folder).join(format!("{name}.card"));

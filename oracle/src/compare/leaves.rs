@@ -5,7 +5,7 @@
 
 use super::{all_same, in_hex, number_bytes, shrink, Difference, Hits};
 use crate::above_one;
-use crate::card::{BALL, HINGE, KINDS, SLIDE, TETHER};
+use crate::card::{finite, BALL, HINGE, KINDS, SLIDE, TETHER};
 use crate::generate::{joint_case, motion_numbers, ordered, right_angle_range, JointCase, Random};
 use crate::math;
 use crate::parts;
@@ -412,7 +412,12 @@ fn rotations() -> Leaf {
 fn matrices() -> Leaf {
     Leaf {
         name: "matrices",
-        parts: &[("matrix", 9), ("by the matrix", 3), ("by the tensor", 3)],
+        parts: &[
+            ("matrix", 9),
+            ("by the matrix", 3),
+            ("by the tensor", 3),
+            ("turned tensor", 6),
+        ],
         generate: |random| match random.below(3) {
             0 => list(random, 13),
             _ => {
@@ -428,7 +433,16 @@ fn matrices() -> Leaf {
             let mut y = m.concat();
             y.extend(math::matrix_times(m, v));
             y.extend(math::tensor_times(v6(x, 4), v));
+            y.extend(math::turned_tensor(v4(x, 0), v6(x, 4)));
             y
+        },
+        classes: |x, y, hits| {
+            let matrix_finite = finite(&y[..9]);
+            let all = finite(x) && matrix_finite;
+            hits.look("turned tensor overflows", all && !finite(&y[15..]));
+            let length = math::rotation_length(v4(x, 0));
+            let other = (0.01..100.0).contains(&length) && (length - 1.0).abs() > 0.1;
+            hits.look("turned by a rotation of another length", other && finite(y));
         },
         ..LEAF
     }
@@ -997,7 +1011,7 @@ fn case_body(anchored: bool, motion: &Motion, inertia: &Inertia) -> (Motion, Ine
 }
 
 /// The prepared numbers, zeros behind; both bodies after the warm start; after the solve 1 where refusal 13 finds each number of the joint and of both
-/// bodies finite, else 0, the totals and both bodies.
+/// bodies finite, their inverse inertias too, else 0, the totals and both bodies.
 fn joint_answer(case: &JointCase) -> Vec<f32> {
     let joint = case.joint.solver_joint();
     let (motion1, inertia1) = case_body(case.anchored == 1, &case.motion1, &case.inertia1);
@@ -1031,7 +1045,8 @@ fn joint_answer(case: &JointCase) -> Vec<f32> {
         case.dt,
     );
     let bodies = [motion_numbers(&body1), motion_numbers(&body2)].concat();
-    let finite = prepared.is_finite() && all_finite(&bodies);
+    let inertias = [inertia1.inv_inertia, inertia2.inv_inertia].concat();
+    let finite = prepared.is_finite() && all_finite(&bodies) && all_finite(&inertias);
     answer.push(finite as u32 as f32);
     answer.extend(prepared.totals().concat());
     answer.extend(bodies);
@@ -1053,7 +1068,7 @@ fn finite_classes(kind: &str, of_finite: bool, y: &[f32], hits: &mut Hits) {
     );
     hits.look(
         "joint not finite in prepared numbers alone",
-        stopped && totals && bodies,
+        stopped && !prepared && totals && bodies,
     );
     hits.look(
         "joint not finite in bodies alone",

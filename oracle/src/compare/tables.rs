@@ -3,9 +3,10 @@
 use super::{in_hex, number_bytes, shrink, Difference, Hits, Table};
 use crate::above_one::{self, AboveOne};
 use crate::card::{
-    self, Card, BALL, BODY_NUMBERS, CAPACITY, HINGE, JOINT_NUMBERS, KINDS, SLIDE, TETHER,
+    self, Card, Joint, BALL, BODY_NUMBERS, CAPACITY, HINGE, JOINT_NUMBERS, KINDS, SLIDE, TETHER,
 };
 use crate::generate::{self, Random};
+use crate::math;
 use crate::table::{self, Ran};
 use std::f32::consts::FRAC_PI_2;
 
@@ -423,6 +424,10 @@ impl Tables {
     pub fn states(&self, seed: u64, count: u64, hits: &mut Hits) -> Result<u64, Box<Difference>> {
         for case in 0..count {
             let random = &mut Random::of_case(seed, case);
+            if random.one_in(10) {
+                self.overflowing(random, hits)?;
+                continue;
+            }
             let card = generate::card(random);
             let state = generate::state(random, &card);
             let mut bytes = card.encode();
@@ -432,6 +437,9 @@ impl Tables {
             }
             let tick = self.tick(&card, &bytes, &state, hits)?;
             hits.look("state: a card is refused", card::REFUSALS.contains(&tick));
+            if tick == 0 {
+                note_lengths(&card, &state, hits);
+            }
             let none = self.both(Call::Run(0), &bytes, &state)?.number;
             for refusal in [0, 12, 13] {
                 let class = format!("state: run of none answers 0, a tick {refusal}");
@@ -459,6 +467,68 @@ impl Tables {
             self.both(Call::Start, &bytes, &state)?;
         }
         Ok(count)
+    }
+}
+
+impl Tables {
+    /// Turned inertias that overflow, and nothing else: 13 exactly where a joint of such a body is solved.
+    fn overflowing(&self, random: &mut Random, hits: &mut Hits) -> Result<(), Box<Difference>> {
+        let (card, state) = generate::overflowing(random);
+        let overflows = |i: usize| {
+            let body = &card.bodies[i];
+            let numbers = &state[BODY_NUMBERS * i + 3..BODY_NUMBERS * i + 7];
+            let rotation = numbers.try_into().expect("four numbers");
+            !body.anchored && !card::finite(&math::turned_tensor(rotation, body.inv_inertia))
+        };
+        let mut without = card.clone();
+        for body in &mut without.bodies {
+            body.inv_inertia = [0.0; 6];
+        }
+        let still = self.both(Call::Tick, &without.encode(), &state)?;
+        let at = |state: &[f32], i: usize| state[BODY_NUMBERS * i..BODY_NUMBERS * i + 3].to_vec();
+        let moved = (0..card.bodies.len()).any(|i| at(&still.state, i) != at(&state, i));
+        assert!(still.number == 0 && !moved, "the joints ask for nothing");
+        let names = |joint: &Joint| [joint.body1 as usize, joint.body2 as usize];
+        let solved = |i: usize| card.joints.iter().any(|joint| names(joint).contains(&i));
+        let tick = self.both(Call::Tick, &card.encode(), &state)?.number;
+        let some = (0..card.bodies.len()).any(|i| overflows(i) && solved(i));
+        assert_eq!(tick, if some { 13 } else { 0 }, "an inertia that overflows");
+        for joint in &card.joints {
+            for (kind, name) in KINDS.iter().enumerate() {
+                let of_kind =
+                    joint.kind as usize == kind && names(joint).into_iter().any(overflows);
+                hits.look(format!("inertia overflows at a {name}: 13"), of_kind);
+            }
+        }
+        let locked = |i: usize| overflows(i) && solved(i) && card.bodies[i].locks != [false; 3];
+        let any = (0..card.bodies.len()).any(locked);
+        hits.look("inertia of a locked body overflows: 13", any);
+        let free = (0..card.bodies.len()).any(overflows) && !some;
+        hits.look("inertia of a body in no joint overflows: no 13", free);
+        self.both(Call::Run(2), &card.encode(), &state)?;
+        Ok(())
+    }
+}
+
+/// Joints on moving bodies whose rotation is of another length than 1.
+fn note_lengths(card: &Card, state: &[f32], hits: &mut Hits) {
+    let stretched = |i: u32| {
+        let at = BODY_NUMBERS * i as usize + 3;
+        let squares: f32 = state[at..at + 4].iter().map(|x| x * x).sum();
+        !card.bodies[i as usize].anchored && !(0.5..2.0).contains(&squares)
+    };
+    let locked = |i: u32| stretched(i) && card.bodies[i as usize].locks != [false; 3];
+    for joint in &card.joints {
+        let bodies = [joint.body1, joint.body2];
+        for (kind, name) in KINDS.iter().enumerate() {
+            let of_kind = joint.kind as usize == kind && bodies.into_iter().any(stretched);
+            hits.look(
+                format!("tick with a {name} on a stretched rotation"),
+                of_kind,
+            );
+        }
+        let class = "tick with a locked body of a stretched rotation";
+        hits.look(class, bodies.into_iter().any(locked));
     }
 }
 

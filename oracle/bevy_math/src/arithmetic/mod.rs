@@ -117,6 +117,19 @@ pub fn matrix_times(m: [[f32; 3]; 3], v: [f32; 3]) -> [f32; 3] {
     add(add(scale(m[0], v[0]), scale(m[1], v[1])), scale(m[2], v[2]))
 }
 
+/// Document 02, point 1: R T Rᵀ, with R the matrix of q and T a symmetric tensor. The left product first, and of the nine numbers the upper six.
+#[inline]
+pub fn turned_tensor(q: [f32; 4], t: [f32; 6]) -> [f32; 6] {
+    let columns = matrix(q);
+    let r = |i: usize, k: usize| columns[k][i];
+    let [xx, xy, xz, yy, yz, zz] = t;
+    let t = [[xx, xy, xz], [xy, yy, yz], [xz, yz, zz]];
+    let left = |i: usize, k: usize| r(i, 0) * t[0][k] + r(i, 1) * t[1][k] + r(i, 2) * t[2][k];
+    let m = [0, 1, 2].map(|i| [0, 1, 2].map(|k| left(i, k)));
+    let n = |i: usize, j: usize| m[i][0] * r(j, 0) + m[i][1] * r(j, 1) + m[i][2] * r(j, 2);
+    [n(0, 0), n(0, 1), n(0, 2), n(1, 1), n(1, 2), n(2, 2)]
+}
+
 #[inline]
 pub fn any_orthonormal(v: [f32; 3]) -> [f32; 3] {
     let [x, y, z] = v;
@@ -227,6 +240,25 @@ mod tests {
     fn length_clamp() {
         assert_eq!(clamp_length_max([3.0, 4.0, 0.0], 5.0), [3.0, 4.0, 0.0]);
         assert_eq!(clamp_length_max([6.0, 8.0, 0.0], 5.0), [3.0, 4.0, 0.0]);
+    }
+
+    #[test]
+    fn a_turned_tensor() {
+        let rod = [12.0, 0.0, 0.0, 0.5, 0.0, 0.5];
+        assert_eq!(turned_tensor(IDENTITY, rod), rod);
+        // A third of a turn about (1, 1, 1) takes x to y, y to z and z to x, exactly.
+        let third = [0.5; 4];
+        let t = [1.0, 2.0, 3.0, 4.0, 5.0, 6.0];
+        assert_eq!(turned_tensor(third, t), [6.0, 3.0, 5.0, 1.0, 2.0, 4.0]);
+        // As a rotation does: the tensor of a turned vector is the turned vector of the tensor.
+        let q = from_scaled_axis([0.3, -1.2, 0.7]);
+        let v = [1.0, -2.0, 0.5];
+        let turned = tensor_times(turned_tensor(q, t), turn(q, v));
+        assert!(length(sub(turned, turn(q, tensor_times(t, v)))) < 1e-4);
+        // A rotation twice as long: (0, 0, 0, 2) has the identity's matrix, (0, 0, 1, 1) has not a quarter turn's.
+        assert_eq!(turned_tensor([0.0, 0.0, 0.0, 2.0], t), t);
+        let long = turned_tensor([0.0, 0.0, 1.0, 1.0], rod);
+        assert_eq!(long, [14.0, -23.0, 0.0, 48.5, 0.0, 0.5]);
     }
 
     #[test]
