@@ -1,4 +1,4 @@
-/* What linkage.h says of the calls, asked of the library: every refusal, the sizes, wrong lengths, null, alignment, threads, stack, environment. */
+/* What linkage.h says of the calls, asked of the library: every refusal, the sizes, wrong lengths, conversions, null, alignment, threads, stack, environment. */
 #define _XOPEN_SOURCE 700
 #include <linkage.h>
 
@@ -17,7 +17,7 @@ static void fail(const char *fact, int line) {
 
 /* A card: stars of tethers about body 0, which is anchored. */
 
-enum { HEADER = 12, BODY = 94, JOINT = 123 };
+enum { BODY = 94, JOINT = 123 };
 
 struct card {
     uint8_t bytes[LINKAGE_MOST_CARD_BYTES + BODY + JOINT];
@@ -35,28 +35,44 @@ static void put_float(uint8_t *at, float number) {
     put(at, bits, 4);
 }
 
+/* The header's bytes by its edition. */
+static size_t header_of(const struct card *card) {
+    return card->bytes[0] == 2 ? 16 : 12;
+}
+
 static void put_header(struct card *card, uint32_t edition, uint32_t bodies, uint32_t joints, uint32_t rate) {
-    put(card->bytes, edition << 24 | bodies << 18 | joints << 12 | rate << 2, 4);
-    card->count = HEADER + BODY * bodies + JOINT * joints;
+    if (edition == 2) {
+        put(card->bytes, edition << 24 | bodies << 16 | joints << 8 | rate >> 8, 4);
+        put(card->bytes + 4, rate << 24, 4);
+    } else {
+        put(card->bytes, edition << 24 | bodies << 18 | joints << 12 | rate << 2, 4);
+    }
+    card->count = header_of(card) + BODY * bodies + JOINT * joints;
+}
+
+static uint8_t *gravity_of(struct card *card) {
+    return card->bytes + header_of(card) - 8;
 }
 
 static uint8_t *body_of(struct card *card, uint32_t n) {
-    return card->bytes + HEADER + BODY * n;
+    return card->bytes + header_of(card) + BODY * n;
 }
 
 static uint8_t *joint_of(struct card *card, uint32_t bodies, uint32_t n) {
-    return card->bytes + HEADER + BODY * bodies + JOINT * n;
+    return body_of(card, bodies) + JOINT * n;
 }
 
-static void put_tether(uint8_t *joint, uint32_t body1, uint32_t body2) {
-    put(joint, UINT32_C(4) << 21 | body1 << 16 | body2 << 11 | UINT32_C(1) << 10, 3);
+static void put_tether(const struct card *card, uint8_t *joint, uint32_t body1, uint32_t body2) {
+    uint32_t edition_1 = body1 << 16 | body2 << 11 | UINT32_C(1) << 10;
+    uint32_t edition_2 = body1 << 13 | body2 << 5 | UINT32_C(1) << 4;
+    put(joint, UINT32_C(4) << 21 | (card->bytes[0] == 2 ? edition_2 : edition_1), 3);
     put_float(joint + 91, 1.5f); /* The limit's max. */
 }
 
-static struct card star(uint32_t bodies, uint32_t joints, uint32_t rate) {
+static struct card star(uint32_t edition, uint32_t bodies, uint32_t joints, uint32_t rate) {
     struct card card = {{0}, 0};
-    put_header(&card, 1, bodies, joints, rate);
-    put_float(card.bytes + 4, -9.75f);
+    put_header(&card, edition, bodies, joints, rate);
+    put_float(gravity_of(&card), -9.75f);
     for (uint32_t n = 0; n < bodies; n++) {
         uint8_t *body = body_of(&card, n);
         put(body, n ? 0 : 0x8000, 2);
@@ -65,7 +81,7 @@ static struct card star(uint32_t bodies, uint32_t joints, uint32_t rate) {
         put_float(body + 66, n ? 0.5f : 0);
     }
     for (uint32_t n = 0; n < joints; n++)
-        put_tether(joint_of(&card, bodies, n), 0, 1 + n % (bodies - 1));
+        put_tether(&card, joint_of(&card, bodies, n), 0, 1 + n % (bodies - 1));
     return card;
 }
 
@@ -78,6 +94,17 @@ static uint32_t run(const struct card *card, float *state, size_t numbers, uint3
     return linkage_run(card->bytes, card->count, state, numbers, ticks, done);
 }
 
+/* A conversion of a card that is refused: the slice is as it was. */
+static void conversion_refused(const struct card *card, uint32_t edition, size_t bytes, uint32_t refusal) {
+    static uint8_t out[LINKAGE_MOST_CARD_BYTES + 8], before[sizeof out];
+    uint32_t length = UNWRITTEN;
+    memset(out, 0xa5, sizeof out);
+    memset(before, 0xa5, sizeof before);
+    uint32_t (*convert)(const uint8_t *, size_t, uint8_t *, size_t, uint32_t *) = edition == 1 ? linkage_to_edition_1 : linkage_to_edition_2;
+    EXPECT(convert(card->bytes, card->count, out, bytes, &length) == refusal && length == 0);
+    EXPECT(memcmp(out, before, sizeof out) == 0);
+}
+
 static void card_refused(const struct card *card, uint32_t refusal) {
     float state[25] = {0}, before[25] = {0};
     uint32_t bodies = UNWRITTEN, joints = UNWRITTEN, numbers = UNWRITTEN, done;
@@ -88,6 +115,11 @@ static void card_refused(const struct card *card, uint32_t refusal) {
     EXPECT(linkage_tick(card->bytes, card->count, state, 25) == refusal);
     EXPECT(run(card, state, 25, 3, &done) == refusal && done == 0);
     EXPECT(memcmp(state, before, sizeof state) == 0);
+    for (uint32_t edition = 1; edition <= 2; edition++) {
+        uint32_t from = 3 - edition;
+        uint32_t conversion = card->count < 12 || card->bytes[0] == from ? refusal : LINKAGE_WRONG_EDITION;
+        conversion_refused(card, edition, LINKAGE_MOST_CARD_BYTES, conversion);
+    }
 }
 
 static uint32_t numbers_of(const struct card *card) {
@@ -99,21 +131,21 @@ static uint32_t numbers_of(const struct card *card) {
 
 /* Refusals. */
 
-static void header_refusals(void) {
-    struct card card = star(2, 1, 240);
-    for (card.count = 0; card.count < HEADER; card.count++)
+static void header_refusals(uint32_t edition) {
+    struct card card = star(edition, 2, 1, 240);
+    for (card.count = 0; card.count < 12; card.count++)
         card_refused(&card, LINKAGE_SHORT_CARD);
-    for (; card.count < HEADER + 2 * BODY + JOINT; card.count++)
+    for (; card.count < header_of(&card) + 2 * BODY + JOINT; card.count++)
         card_refused(&card, LINKAGE_WRONG_LENGTH);
     EXPECT(linkage_check(card.bytes, card.count) == LINKAGE_DONE);
     card.count++;
     card_refused(&card, LINKAGE_WRONG_LENGTH);
-    put_header(&card, 1, 0, 1, 240);
+    put_header(&card, edition, 0, 1, 240);
     card_refused(&card, LINKAGE_WRONG_COUNTS);
 }
 
-static void record_refusals(void) {
-    struct card card = star(3, 1, 240);
+static void record_refusals(uint32_t edition) {
+    struct card card = star(edition, 3, 1, 240);
     uint8_t *joint = joint_of(&card, 3, 0);
     joint[2] |= 1;
     card_refused(&card, LINKAGE_UNUSED_BITS);
@@ -121,9 +153,9 @@ static void record_refusals(void) {
     body_of(&card, 1)[0] |= 1;
     card_refused(&card, LINKAGE_DOMINANCE);
     body_of(&card, 1)[0] ^= 1;
-    put(card.bytes + 4, 0x7fc00000, 4);
+    put(gravity_of(&card), 0x7fc00000, 4);
     card_refused(&card, LINKAGE_FLOAT_OUT_OF_RANGE);
-    put_float(card.bytes + 4, 0);
+    put_float(gravity_of(&card), 0);
     joint[0] ^= 0xa0; /* A hinge. */
     put_float(joint + 91, 8);
     card_refused(&card, LINKAGE_ANGLE_LIMIT);
@@ -136,15 +168,34 @@ static void record_refusals(void) {
     card_refused(&card, LINKAGE_NOT_UNIT);
     put_float(body_of(&card, 1) + 26, 1);
     for (uint32_t body2 = 0; body2 < 4; body2 += 3) {
-        put_tether(joint, 0, body2);
+        put_tether(&card, joint, 0, body2);
         card_refused(&card, LINKAGE_WRONG_BODIES);
     }
-    put_tether(joint, 2, 1);
+    put_tether(&card, joint, 2, 1);
     EXPECT(linkage_check(card.bytes, card.count) == LINKAGE_DONE);
 }
 
+/* A card of either edition as it is drawn in both: over, back, a byte too short, past the result, and what edition 1 has no room for. */
+static void conversions(void) {
+    const struct card first = star(1, 32, 32, 1000), second = star(2, 32, 32, 1000);
+    static uint8_t out[LINKAGE_MOST_CARD_BYTES];
+    uint32_t length = UNWRITTEN;
+    memset(out, 0xa5, sizeof out);
+    EXPECT(linkage_to_edition_2(first.bytes, first.count, out, sizeof out, &length) == LINKAGE_DONE && length == second.count);
+    EXPECT(memcmp(out, second.bytes, length) == 0 && out[length] == 0xa5);
+    EXPECT(linkage_to_edition_1(second.bytes, second.count, out, first.count, &length) == LINKAGE_DONE && length == first.count);
+    EXPECT(memcmp(out, first.bytes, length) == 0);
+    conversion_refused(&first, 2, second.count - 1, LINKAGE_CONVERSION);
+    conversion_refused(&second, 1, first.count - 1, LINKAGE_CONVERSION);
+    conversion_refused(&first, 1, LINKAGE_MOST_CARD_BYTES, LINKAGE_WRONG_EDITION);
+    conversion_refused(&second, 2, LINKAGE_MOST_CARD_BYTES, LINKAGE_WRONG_EDITION);
+    const struct card large[] = {star(2, 33, 32, 1000), star(2, 32, 33, 1000), star(2, 32, 32, 1001), star(2, 200, 200, 4000)};
+    for (size_t n = 0; n < sizeof large / sizeof *large; n++)
+        conversion_refused(&large[n], 1, LINKAGE_MOST_CARD_BYTES, LINKAGE_CONVERSION);
+}
+
 static void state_refusals(void) {
-    struct card card = star(2, 1, 240);
+    struct card card = star(1, 2, 1, 240);
     float state[38], before[38];
     uint32_t done;
     for (uint32_t numbers = 0; numbers <= 40; numbers++) {
@@ -162,7 +213,7 @@ static void state_refusals(void) {
     state[LINKAGE_BODY_NUMBERS + LINKAGE_POSITION] = 4097;
     EXPECT(linkage_tick(card.bytes, card.count, state, 38) == LINKAGE_STATE_NUMBER);
     EXPECT(run(&card, state, 38, 3, &done) == LINKAGE_STATE_NUMBER && done == 0);
-    struct card free_bodies = star(2, 0, 16);
+    struct card free_bodies = star(1, 2, 0, 16);
     EXPECT(linkage_start(free_bodies.bytes, free_bodies.count, state, 26) == LINKAGE_DONE);
     state[LINKAGE_BODY_NUMBERS + LINKAGE_POSITION] = 4090;
     state[LINKAGE_BODY_NUMBERS + LINKAGE_LINEAR_VELOCITY] = 64;
@@ -182,29 +233,36 @@ static int is_known(uint32_t edition) {
     return 0;
 }
 
-static void editions(void) {
-    const struct linkage_edition e = linkage_editions[0];
-    EXPECT(LINKAGE_EDITIONS == 1 && e.header_bytes == HEADER && e.body_bytes == BODY && e.joint_bytes == JOINT);
-    struct card largest = star(e.most_bodies, e.most_joints, e.fastest);
-    EXPECT(largest.count == LINKAGE_MOST_CARD_BYTES && numbers_of(&largest) == LINKAGE_MOST_STATE_NUMBERS);
-    for (uint32_t edition = 0; edition < 256; edition++) {
-        put_header(&largest, edition, e.most_bodies, e.most_joints, e.slowest);
-        EXPECT(linkage_check(largest.bytes, largest.count) == (is_known(edition) ? LINKAGE_DONE : LINKAGE_WRONG_EDITION));
-    }
+static void edition_limits(const struct linkage_edition *e) {
+    EXPECT(e->body_bytes == BODY && e->joint_bytes == JOINT);
+    struct card largest = star(e->edition, e->most_bodies, e->most_joints, e->fastest);
+    EXPECT(header_of(&largest) == e->header_bytes && largest.count <= LINKAGE_MOST_CARD_BYTES);
+    EXPECT(numbers_of(&largest) <= LINKAGE_MOST_STATE_NUMBERS);
     for (uint32_t more = 0; more < 2; more++) {
-        put_header(&largest, 1, e.most_bodies + more, e.most_joints + 1 - more, e.slowest);
+        put_header(&largest, e->edition, e->most_bodies + more, e->most_joints + 1 - more, e->slowest);
         card_refused(&largest, LINKAGE_WRONG_COUNTS);
-        put_header(&largest, 1, e.most_bodies, e.most_joints, more ? e.fastest + 1 : e.slowest - 1);
+        put_header(&largest, e->edition, e->most_bodies, e->most_joints, more ? e->fastest + 1 : e->slowest - 1);
         card_refused(&largest, LINKAGE_WRONG_RATE);
+    }
+}
+
+static void editions(void) {
+    struct card largest = star(2, 200, 200, 4000);
+    EXPECT(LINKAGE_EDITIONS == 2 && largest.count == LINKAGE_MOST_CARD_BYTES && numbers_of(&largest) == LINKAGE_MOST_STATE_NUMBERS);
+    for (size_t n = 0; n < LINKAGE_EDITIONS; n++)
+        edition_limits(&linkage_editions[n]);
+    for (uint32_t edition = 0; edition < 256; edition++) {
+        struct card card = star(edition, 2, 1, 240);
+        EXPECT(linkage_check(card.bytes, card.count) == (is_known(edition) ? LINKAGE_DONE : LINKAGE_WRONG_EDITION));
     }
 }
 
 /* Null with length 0, and cards at any address. */
 
 static void nulls(void) {
-    struct card card = star(2, 1, 240);
+    struct card card = star(1, 2, 1, 240);
     float state[38];
-    uint32_t bodies, joints, numbers, done;
+    uint32_t bodies, joints, numbers, done, length;
     EXPECT(linkage_check(NULL, 0) == LINKAGE_SHORT_CARD);
     EXPECT(linkage_sizes(NULL, 0, &bodies, &joints, &numbers) == LINKAGE_SHORT_CARD);
     EXPECT(linkage_start(NULL, 0, state, 38) == LINKAGE_SHORT_CARD);
@@ -215,6 +273,9 @@ static void nulls(void) {
     EXPECT(linkage_tick(card.bytes, card.count, NULL, 0) == LINKAGE_STATE_LENGTH);
     EXPECT(linkage_run(card.bytes, card.count, NULL, 0, 0, &done) == LINKAGE_STATE_LENGTH);
     EXPECT(linkage_run(card.bytes, card.count, NULL, 0, 3, &done) == LINKAGE_STATE_LENGTH);
+    EXPECT(linkage_to_edition_1(NULL, 0, NULL, 0, &length) == LINKAGE_SHORT_CARD);
+    EXPECT(linkage_to_edition_2(NULL, 0, NULL, 0, &length) == LINKAGE_SHORT_CARD);
+    EXPECT(linkage_to_edition_2(card.bytes, card.count, NULL, 0, &length) == LINKAGE_CONVERSION);
 }
 
 /* The state after so many ticks. */
@@ -225,7 +286,7 @@ static void ran(const struct card *card, uint32_t ticks, float *state) {
 }
 
 static void addresses(void) {
-    struct card card = star(5, 4, 240);
+    struct card card = star(1, 5, 4, 240);
     float state[LINKAGE_MOST_STATE_NUMBERS], other[LINKAGE_MOST_STATE_NUMBERS];
     uint32_t numbers = numbers_of(&card), done;
     ran(&card, 50, state);
@@ -252,7 +313,7 @@ static void *work(void *job) {
 }
 
 static void threads(void) {
-    struct card cards[2] = {star(32, 32, 240), star(3, 2, 500)};
+    struct card cards[2] = {star(2, 40, 40, 4000), star(1, 3, 2, 500)};
     static struct job jobs[4];
     pthread_t thread[4];
     for (int n = 0; n < 4; n++) {
@@ -267,21 +328,28 @@ static void threads(void) {
     }
 }
 
-/* Stack: a run on one that is filled with a pattern. */
+/* Stack: every call on one that is filled with a pattern. */
 
-static uint8_t stack[4 * LINKAGE_STACK_BYTES];
+static uint8_t stack[2 * LINKAGE_STACK_BYTES];
 static struct card stack_card;
-static float stack_state[LINKAGE_MOST_STATE_NUMBERS];
 
 static void on_stack(void) {
-    uint32_t done;
-    linkage_start(stack_card.bytes, stack_card.count, stack_state, LINKAGE_MOST_STATE_NUMBERS);
-    linkage_run(stack_card.bytes, stack_card.count, stack_state, LINKAGE_MOST_STATE_NUMBERS, 5, &done);
+    static float state[LINKAGE_MOST_STATE_NUMBERS];
+    static uint8_t out[LINKAGE_MOST_CARD_BYTES];
+    uint32_t bodies, joints, numbers, done, length;
+    linkage_check(stack_card.bytes, stack_card.count);
+    linkage_sizes(stack_card.bytes, stack_card.count, &bodies, &joints, &numbers);
+    linkage_start(stack_card.bytes, stack_card.count, state, numbers);
+    linkage_tick(stack_card.bytes, stack_card.count, state, numbers);
+    linkage_run(stack_card.bytes, stack_card.count, state, numbers, 5, &done);
+    linkage_to_edition_1(stack_card.bytes, stack_card.count, out, sizeof out, &length);
+    linkage_to_edition_2(stack_card.bytes, stack_card.count, out, sizeof out, &length);
 }
 
-static void stack_depth(void) {
+/* The most that the calls take for a card. */
+static size_t stack_of(struct card card) {
     ucontext_t here, there;
-    stack_card = star(32, 32, 240);
+    stack_card = card;
     memset(stack, 0x5a, sizeof stack);
     EXPECT(getcontext(&there) == 0);
     there.uc_stack.ss_sp = stack;
@@ -292,8 +360,16 @@ static void stack_depth(void) {
     size_t untouched = 0;
     while (untouched < sizeof stack && stack[untouched] == 0x5a)
         untouched++;
-    EXPECT(sizeof stack - untouched > LINKAGE_STACK_BYTES / 2);
-    EXPECT(sizeof stack - untouched < LINKAGE_STACK_BYTES);
+    return sizeof stack - untouched;
+}
+
+static void stack_depth(void) {
+    size_t any = stack_of(star(2, 200, 200, 4000));
+    EXPECT(any > LINKAGE_STACK_BYTES / 2 && any < LINKAGE_STACK_BYTES);
+    for (uint32_t edition = 1; edition <= 2; edition++) {
+        size_t small = stack_of(star(edition, 32, 32, 240));
+        EXPECT(small > LINKAGE_SMALL_STACK_BYTES / 2 && small < LINKAGE_SMALL_STACK_BYTES);
+    }
 }
 
 static void environment(void) {
@@ -308,10 +384,13 @@ static void environment(void) {
 }
 
 int main(void) {
-    header_refusals();
-    record_refusals();
+    for (uint32_t edition = 1; edition <= 2; edition++) {
+        header_refusals(edition);
+        record_refusals(edition);
+    }
     state_refusals();
     editions();
+    conversions();
     nulls();
     addresses();
     threads();

@@ -12,7 +12,7 @@ int main(void) {
                e->edition, e->header_bytes, e->body_bytes, e->joint_bytes, e->most_bodies, e->most_joints, e->slowest, e->fastest);
     }
     printf("state %d %d, at most %d; card at most %d\n", LINKAGE_BODY_NUMBERS, LINKAGE_JOINT_NUMBERS, LINKAGE_MOST_STATE_NUMBERS, LINKAGE_MOST_CARD_BYTES);
-    for (uint32_t answer = 1; answer <= LINKAGE_STOPPED + 1; answer++)
+    for (uint32_t answer = 1; answer <= 100; answer++)
         printf("%" PRIu32 " %s\n", answer, linkage_text(answer));
     return 0;
 }

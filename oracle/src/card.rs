@@ -3,12 +3,77 @@
 use crate::math;
 use crate::solver;
 
-pub const HEADER_BYTES: usize = 12;
+/// A card of fewer is refused by 1, whichever edition it may be.
+pub const LEAST_BYTES: usize = 12;
 pub const BODY_BYTES: usize = 94;
 pub const JOINT_BYTES: usize = 123;
 pub const BODY_NUMBERS: usize = 13;
 pub const JOINT_NUMBERS: usize = 12;
-pub const CAPACITY: usize = 32;
+pub const SLOWEST: u32 = 16;
+
+/// Where the editions differ. What is counted in bits is the width of a field.
+#[derive(Clone, Copy, Debug, PartialEq)]
+pub struct Edition {
+    pub number: u32,
+    pub header_bytes: usize,
+    pub count_bits: usize,
+    pub rate_bits: usize,
+    pub zero_bits: usize,
+    pub body_number_bits: usize,
+    pub joint_zero_bits: usize,
+    /// The most bodies, and the most joints.
+    pub most: usize,
+    pub fastest: u32,
+}
+
+pub const EDITION_1: Edition = Edition {
+    number: 1,
+    header_bytes: 12,
+    count_bits: 6,
+    rate_bits: 10,
+    zero_bits: 2,
+    body_number_bits: 5,
+    joint_zero_bits: 7,
+    most: 32,
+    fastest: 1000,
+};
+
+/// Document 02, point 4.
+pub const EDITION_2: Edition = Edition {
+    number: 2,
+    header_bytes: 16,
+    count_bits: 8,
+    rate_bits: 16,
+    zero_bits: 24,
+    body_number_bits: 8,
+    joint_zero_bits: 1,
+    most: 200,
+    fastest: 4000,
+};
+
+pub const EDITIONS: [Edition; 2] = [EDITION_1, EDITION_2];
+
+impl Edition {
+    pub fn of_number(number: u32) -> Option<Edition> {
+        EDITIONS
+            .into_iter()
+            .find(|edition| edition.number == number)
+    }
+
+    /// The largest number that its field can have.
+    pub fn last_count(&self) -> usize {
+        (1 << self.count_bits) - 1
+    }
+
+    /// Likewise.
+    pub fn last_rate(&self) -> u32 {
+        (1 << self.rate_bits) - 1
+    }
+
+    pub fn card_bytes(&self, bodies: usize, joints: usize) -> usize {
+        self.header_bytes + BODY_BYTES * bodies + JOINT_BYTES * joints
+    }
+}
 
 /// The refusals of a card, in the order in which they are asked.
 pub const REFUSALS: [u32; 12] = [1, 2, 3, 4, 5, 6, 17, 7, 19, 8, 9, 10];
@@ -146,8 +211,10 @@ impl Writer {
     }
 
     fn floats(&mut self, numbers: &[f32]) {
+        // Each record's bit fields fill whole bytes.
         for number in numbers {
-            self.put(32, number.to_bits());
+            self.bytes.extend(number.to_bits().to_be_bytes());
+            self.bits += 32;
         }
     }
 }
@@ -159,7 +226,7 @@ struct Reader<'a> {
 
 impl Reader<'_> {
     fn take(&mut self, width: usize) -> u32 {
-        // At most 10 bits, with floats behind them: they lie in the four bytes from the one in which they begin.
+        // Few bits, with floats behind them: they lie in the four bytes from the one in which they begin.
         let at = self.bits / 8;
         let word = u32::from_be_bytes(self.bytes[at..at + 4].try_into().unwrap());
         let value = word << (self.bits % 8) >> (32 - width);
@@ -185,16 +252,18 @@ impl Reader<'_> {
 }
 
 impl Card {
+    /// The card's bytes. One of no edition is laid out as one of the first.
     pub fn encode(&self) -> Vec<u8> {
+        let edition = Edition::of_number(self.edition).unwrap_or(EDITION_1);
         let mut w = Writer {
             bytes: Vec::new(),
             bits: 0,
         };
         w.put(8, self.edition);
-        w.put(6, self.bodies.len() as u32);
-        w.put(6, self.joints.len() as u32);
-        w.put(10, self.rate);
-        w.put(2, self.zero);
+        w.put(edition.count_bits, self.bodies.len() as u32);
+        w.put(edition.count_bits, self.joints.len() as u32);
+        w.put(edition.rate_bits, self.rate);
+        w.put(edition.zero_bits, self.zero);
         w.floats(&[self.gravity, self.warm_coefficient]);
         for body in &self.bodies {
             w.put(1, body.anchored as u32);
@@ -213,12 +282,12 @@ impl Card {
         }
         for joint in &self.joints {
             w.put(3, joint.kind);
-            w.put(5, joint.body1);
-            w.put(5, joint.body2);
+            w.put(edition.body_number_bits, joint.body1);
+            w.put(edition.body_number_bits, joint.body2);
             w.put(1, joint.limit1 as u32);
             w.put(1, joint.limit2 as u32);
             w.put(2, joint.motor);
-            w.put(7, joint.zero);
+            w.put(edition.joint_zero_bits, joint.zero);
             w.floats(&joint.anchor1);
             w.floats(&joint.anchor2);
             w.floats(&joint.basis1);
@@ -232,14 +301,14 @@ impl Card {
         w.bytes
     }
 
-    /// Takes the fields of a card whose length is the one that its counts give.
-    fn decode(&mut self, bytes: &[u8]) {
+    /// Takes the fields of a card of an edition whose length is the one that its counts give.
+    fn decode(&mut self, bytes: &[u8], edition: &Edition) {
         let mut r = Reader { bytes, bits: 0 };
         self.edition = r.take(8);
-        let bodies = r.take(6);
-        let joints = r.take(6);
-        self.rate = r.take(10);
-        self.zero = r.take(2);
+        let bodies = r.take(edition.count_bits);
+        let joints = r.take(edition.count_bits);
+        self.rate = r.take(edition.rate_bits);
+        self.zero = r.take(edition.zero_bits);
         [self.gravity, self.warm_coefficient] = r.floats();
         let body = |r: &mut Reader| Body {
             anchored: r.flag(),
@@ -256,12 +325,12 @@ impl Card {
         };
         let joint = |r: &mut Reader| Joint {
             kind: r.take(3),
-            body1: r.take(5),
-            body2: r.take(5),
+            body1: r.take(edition.body_number_bits),
+            body2: r.take(edition.body_number_bits),
             limit1: r.flag(),
             limit2: r.flag(),
             motor: r.take(2),
-            zero: r.take(7),
+            zero: r.take(edition.joint_zero_bits),
             anchor1: r.floats(),
             anchor2: r.floats(),
             basis1: r.floats(),
@@ -299,26 +368,26 @@ pub fn check(bytes: &[u8]) -> Result<Card, u32> {
 /// `check` into a card whose room for bodies and joints is used again; what it holds after a refusal has no meaning.
 /// Each check goes over the whole card before the next begins.
 pub fn check_into(card: &mut Card, bytes: &[u8]) -> Result<(), u32> {
-    if bytes.len() < HEADER_BYTES {
+    if bytes.len() < LEAST_BYTES {
         return Err(1);
     }
     let mut header = Reader { bytes, bits: 0 };
-    if header.take(8) != 1 {
+    let Some(edition) = Edition::of_number(header.take(8)) else {
         return Err(2);
-    }
-    let bodies = header.take(6) as usize;
-    let joints = header.take(6) as usize;
-    if bodies == 0 || bodies > CAPACITY || joints > CAPACITY {
+    };
+    let bodies = header.take(edition.count_bits) as usize;
+    let joints = header.take(edition.count_bits) as usize;
+    if bodies == 0 || bodies > edition.most || joints > edition.most {
         return Err(3);
     }
-    let rate = header.take(10);
-    if !(16..=1000).contains(&rate) {
+    let rate = header.take(edition.rate_bits);
+    if !(SLOWEST..=edition.fastest).contains(&rate) {
         return Err(4);
     }
-    if bytes.len() != HEADER_BYTES + BODY_BYTES * bodies + JOINT_BYTES * joints {
+    if bytes.len() != edition.card_bytes(bodies, joints) {
         return Err(5);
     }
-    card.decode(bytes);
+    card.decode(bytes, &edition);
     if card.zero != 0 || !card.bodies.iter().all(body_fits) || !card.joints.iter().all(joint_fits) {
         return Err(6);
     }
@@ -653,27 +722,84 @@ mod tests {
         assert_eq!(check(&[]).err(), Some(1));
         assert_eq!(check(&bytes[..11]).err(), Some(1));
         assert_eq!(check(&bytes[..12]).err(), Some(5));
-        for (edition, number) in [(0, 2), (1, 0), (2, 2), (255, 2)] {
+        for (edition, number) in [(0, 2), (1, 0), (2, 0), (3, 2), (255, 2)] {
             expect(BALL, number, |card| card.edition = edition);
         }
-        for (rate, number) in [(0, 4), (15, 4), (16, 0), (1000, 0), (1001, 4), (1023, 4)] {
-            expect(BALL, number, |card| card.rate = rate);
+        for edition in EDITIONS {
+            limits_of(&edition);
         }
-        for (zero, number) in [(0, 0), (1, 6), (2, 6)] {
-            expect(BALL, number, |card| card.zero = zero);
-        }
-        for (count, number) in [(1, 0), (32, 0), (33, 3), (63, 3)] {
-            let mut card = Card::example();
-            card.bodies = vec![Body::UNIT; count];
-            assert_eq!(answer(&card), number);
-        }
-        let mut card = Card::example();
-        card.bodies.clear();
-        assert_eq!(answer(&card), 3);
-        for (count, number) in [(32, 0), (33, 3)] {
+    }
+
+    /// Both sides of each limit of an edition's header.
+    fn limits_of(edition: &Edition) {
+        let expect = |number: u32, edit: &dyn Fn(&mut Card)| {
             expect(BALL, number, |card| {
+                card.edition = edition.number;
+                edit(card);
+            })
+        };
+        for (rate, number) in [
+            (0, 4),
+            (15, 4),
+            (16, 0),
+            (edition.fastest, 0),
+            (edition.fastest + 1, 4),
+            (edition.last_rate(), 4),
+        ] {
+            expect(number, &|card| card.rate = rate);
+        }
+        expect(0, &|card| card.zero = 0);
+        for bit in 0..edition.zero_bits {
+            expect(6, &|card| card.zero = 1 << bit);
+        }
+        for bit in 0..edition.joint_zero_bits {
+            expect(6, &|card| card.joints[0].zero = 1 << bit);
+        }
+        for (count, number) in [
+            (0, 3),
+            (2, 0),
+            (edition.most, 0),
+            (edition.most + 1, 3),
+            (edition.last_count(), 3),
+        ] {
+            expect(number, &|card| card.bodies = vec![Body::UNIT; count]);
+        }
+        for (count, number) in [(0, 0), (edition.most, 0), (edition.most + 1, 3)] {
+            expect(number, &|card| {
                 card.joints = vec![Joint::plain(BALL, 0, 1); count]
             });
+        }
+    }
+
+    #[test]
+    fn bytes_of_edition_2() {
+        let mut card = pair(HINGE);
+        card.edition = 2;
+        card.rate = 4000;
+        card.joints[0].motor = 3;
+        let bytes = card.encode();
+        assert_eq!(bytes.len(), 16 + 2 * 94 + 123);
+        assert_eq!(bytes[..8], [2, 2, 1, 0x0f, 0xa0, 0, 0, 0]);
+        assert_eq!(bytes[8..12], (-9.75f32).to_be_bytes());
+        // Kind 3 bits, bodies 8 and 8, limits 1 and 1, motor 2, zero 1.
+        assert_eq!(bytes[204..207], [0b001_00000, 0b000_00000, 0b001_00_11_0]);
+        assert_eq!(format!("{:?}", check(&bytes).unwrap()), format!("{card:?}"));
+        for length in 12..bytes.len() {
+            assert_eq!(check(&bytes[..length]).err(), Some(5));
+        }
+        for (place, byte, number) in [
+            (0, 3, 2),
+            (1, 0, 3),
+            (1, 200, 5),
+            (1, 201, 3),
+            (2, 200, 5),
+            (2, 201, 3),
+            (4, 0xa1, 4),
+        ] {
+            let mut bytes = bytes.clone();
+            bytes[place] = byte;
+            assert_eq!(check(&bytes[..12]).err(), Some(number));
+            assert_eq!(check(&bytes[..11]).err(), Some(1));
         }
     }
 
@@ -751,9 +877,6 @@ mod tests {
         for zero in [1, 8] {
             expect(BALL, 6, |card| card.bodies[0].zero = zero);
             expect(BALL, 6, |card| card.bodies[1].zero = zero);
-        }
-        for zero in [1, 64] {
-            expect(BALL, 6, |card| card.joints[0].zero = zero);
         }
         // A kind's listed compliances have use though their limit is off.
         for (kind, used) in [(FIXED, 2), (HINGE, 3), (SLIDE, 2), (BALL, 3), (TETHER, 1)] {
@@ -932,6 +1055,13 @@ mod tests {
         for (body1, body2, number) in [(0, 1, 0), (1, 0, 0), (0, 2, 10), (31, 0, 10), (0, 0, 10)] {
             expect(BALL, number, |card| {
                 card.joints[0].body1 = body1;
+                card.joints[0].body2 = body2;
+            });
+        }
+        for (body2, number) in [(32, 0), (199, 0), (200, 10), (255, 10)] {
+            expect(BALL, number, |card| {
+                card.edition = 2;
+                card.bodies = vec![Body::UNIT; 200];
                 card.joints[0].body2 = body2;
             });
         }

@@ -1,12 +1,15 @@
 //! Families of cards for what no proof covers, the compiler's back end: many joints on one body or on one pair, anchored bodies between, and numbers at the
 //! steps where a rule changes.
 
-use crate::card::{self, Body, Card, Joint, BALL, CAPACITY, HINGE, SLIDE, TETHER};
+use crate::card::{self, Body, Card, Joint, BALL, EDITION_1, HINGE, SLIDE, TETHER};
 use crate::compare::shrink::floats;
 use crate::generate::{anchored, header, holding, link, product, rotation_about, Random};
 use crate::math;
 use crate::solver::{self, Pose};
 use std::f32::consts::{PI, TAU};
+
+/// As many as either edition takes.
+pub const CAPACITY: usize = EDITION_1.most;
 
 pub struct Family {
     pub name: &'static str,
@@ -98,22 +101,26 @@ fn links(random: &mut Random, count: usize, spread: f32) -> Vec<Body> {
 
 // ------------------------------------------------------------------------------------------------------------------------- many joints
 
-/// A hub among 31 others, each joined to it, and one of them twice.
 fn star(random: &mut Random) -> Card {
-    let mut card = header(random);
-    card.bodies = links(random, CAPACITY, 2.0);
-    let hub = random.below(CAPACITY);
+    let card = header(random);
+    star_of(random, card, CAPACITY)
+}
+
+/// A hub among other bodies, each joined to it, and one of them twice.
+pub(crate) fn star_of(random: &mut Random, mut card: Card, count: usize) -> Card {
+    card.bodies = links(random, count, 2.0);
+    let hub = random.below(count);
     let fixed_hub = random.one_in(6);
-    for i in 0..CAPACITY {
+    for i in 0..count {
         if i == hub && fixed_hub || i != hub && !fixed_hub && random.one_in(8) {
             card.bodies[i] = anchored(&card.bodies[i]);
         }
     }
     let kinds = kinds(random);
-    for i in (0..CAPACITY).filter(|i| *i != hub) {
+    for i in (0..count).filter(|i| *i != hub) {
         join(random, &mut card, &kinds, hub, i);
     }
-    let again = (hub + 1 + random.below(CAPACITY - 1)) % CAPACITY;
+    let again = (hub + 1 + random.below(count - 1)) % count;
     join(random, &mut card, &kinds, hub, again);
     card
 }
@@ -130,8 +137,13 @@ fn is_star(card: &Card) -> bool {
 }
 
 fn one_pair(random: &mut Random) -> Card {
-    let mut card = header(random);
-    let count = random.pick(&[2, 2, 2, CAPACITY]);
+    let card = header(random);
+    one_pair_of(random, card, CAPACITY)
+}
+
+/// So many joints on one pair of bodies, which are all there are or two of as many.
+pub(crate) fn one_pair_of(random: &mut Random, mut card: Card, joints: usize) -> Card {
+    let count = random.pick(&[2, 2, 2, joints]);
     card.bodies = links(random, count, 1.0);
     let first = random.below(count);
     let second = (first + 1 + random.below(count - 1)) % count;
@@ -139,7 +151,7 @@ fn one_pair(random: &mut Random) -> Card {
         card.bodies[first] = anchored(&card.bodies[first]);
     }
     let kinds = kinds(random);
-    for _ in 0..CAPACITY {
+    for _ in 0..joints {
         join(random, &mut card, &kinds, first, second);
     }
     card

@@ -1,9 +1,10 @@
 //! Random and boundary inputs: numbers, poses, single joints, cards, damaged cards and states. Every draw follows from a seed.
 
 use crate::card::{
-    self, Body, Card, Joint, BALL, BODY_BYTES, BODY_NUMBERS, CAPACITY, FIXED, HEADER_BYTES, HINGE,
-    JOINT_BYTES, SLIDE, TETHER,
+    self, Body, Card, Edition, Joint, BALL, BODY_BYTES, BODY_NUMBERS, EDITIONS, EDITION_1,
+    EDITION_2, FIXED, HINGE, JOINT_BYTES, LEAST_BYTES, SLIDE, SLOWEST, TETHER,
 };
+use crate::large;
 use crate::solver::{Inertia, Motion, Pose};
 use crate::table;
 
@@ -213,10 +214,10 @@ impl Random {
         self.rotation().map(|x| x * stretch)
     }
 
-    pub fn rate(&mut self) -> u32 {
+    pub fn rate(&mut self, fastest: u32) -> u32 {
         match self.below(4) {
-            0 => self.pick(&[16, 1000, 64]),
-            1 => 16 + self.below(985) as u32,
+            0 => self.pick(&[SLOWEST, fastest, 64]),
+            1 => SLOWEST + self.below((fastest - SLOWEST) as usize + 1) as u32,
             _ => self.pick(&[30, 60, 64, 100, 120, 240]),
         }
     }
@@ -645,7 +646,7 @@ pub fn joint_case(random: &mut Random) -> JointCase {
     if matches!(kind, HINGE | SLIDE | BALL) {
         joint.axis = random.direction();
     }
-    let dt = 1.0 / random.rate() as f32;
+    let dt = 1.0 / random.rate(EDITION_2.fastest) as f32;
 
     let mut pose1 = Pose {
         position: random.ordinary3(),
@@ -849,10 +850,12 @@ fn pose_body(pose: &Pose) -> Body {
     }
 }
 
+/// A card without bodies, of either edition.
 pub(crate) fn header(random: &mut Random) -> Card {
+    let edition = random.pick(&EDITIONS);
     Card {
-        edition: 1,
-        rate: random.rate(),
+        edition: edition.number,
+        rate: random.rate(edition.fastest),
         zero: 0,
         gravity: random.pick(&[-9.75, 0.0, -9.81, 1.0, -1024.0]),
         warm_coefficient: random.pick(&[0.0, 1.0, 0.5, 0.3]),
@@ -968,16 +971,21 @@ pub(crate) fn anchored(body: &Body) -> Body {
     }
 }
 
-/// A linkage that is built to run: a chain or a closed loop of bodies a step apart, the first of them anchored or none.
+/// A linkage that is built to run.
 pub fn linkage(random: &mut Random) -> Card {
-    let mut card = header(random);
-    card.gravity = random.pick(&[-9.75, 0.0, -1.0]);
+    let card = header(random);
     let count = match random.below(6) {
         0 => 32,
         1 => 2,
         _ => 2 + random.below(10),
     };
     let closed = count > 2 && count < 32 && random.one_in(3);
+    linked(random, card, count, closed)
+}
+
+/// A chain or a closed loop of bodies a step apart, the first of them anchored or another or none.
+pub(crate) fn linked(random: &mut Random, mut card: Card, count: usize, closed: bool) -> Card {
+    card.gravity = random.pick(&[-9.75, 0.0, -1.0]);
     let kinds: Vec<u32> = match random.below(3) {
         0 => vec![random.below(5) as u32],
         _ => (0..5).collect(),
@@ -1056,6 +1064,9 @@ pub fn overflowing(random: &mut Random) -> (Card, Vec<f32>) {
     }
     (card, state)
 }
+
+/// A large card takes as long as many others: one in so many is.
+const LARGE: usize = 400;
 
 /// A card of one joint case, for ticks with right-angle swings, limits hit on either side and the like.
 pub fn pair(random: &mut Random) -> Card {
@@ -1138,20 +1149,26 @@ pub fn held(kind: u32, stop: f32) -> Card {
     }
 }
 
-/// Any card that no check refuses: numbers anywhere in their ranges, bodies and joints in no order.
+/// Any card that no check refuses.
 pub fn any_card(random: &mut Random) -> Card {
-    let mut card = header(random);
+    let card = header(random);
+    let bodies = match random.below(4) {
+        0 => 32,
+        _ => 1 + random.below(8),
+    };
+    let joints = random.pick(&[0, 1, 2, 5, 32]);
+    scattered(random, card, bodies, joints)
+}
+
+/// Numbers anywhere in their ranges, bodies and joints in no order: of the joints those that a card may have.
+pub(crate) fn scattered(random: &mut Random, mut card: Card, bodies: usize, joints: usize) -> Card {
     let number = |random: &mut Random| match random.below(6) {
         0 => random.pick(&[1024.0, -1024.0, -0.0, f32::from_bits(1), f32::MIN_POSITIVE]),
         1 => random.between(-1024.0, 1024.0),
         _ => random.ordinary(),
     };
     card.gravity = number(random);
-    let count = match random.below(4) {
-        0 => 32,
-        _ => 1 + random.below(8),
-    };
-    for _ in 0..count {
+    for _ in 0..bodies {
         let position = [0; 3].map(|_| number(random));
         let rotation = random.card_rotation();
         let center_of_mass = random.pick(&[[0.0; 3], [0.1, -0.2, 0.3]]);
@@ -1173,8 +1190,8 @@ pub fn any_card(random: &mut Random) -> Card {
             ..body
         });
     }
-    for _ in 0..random.pick(&[0, 1, 2, 5, 32]) {
-        let (body1, body2) = (random.below(count), random.below(count));
+    for _ in 0..joints {
+        let (body1, body2) = (random.below(bodies), random.below(bodies));
         if body1 == body2 || card.bodies[body1].anchored && card.bodies[body2].anchored {
             continue;
         }
@@ -1194,8 +1211,11 @@ pub fn any_card(random: &mut Random) -> Card {
     card
 }
 
-/// One of the above.
+/// One of the above, and now and then a large one.
 pub fn card(random: &mut Random) -> Card {
+    if random.one_in(LARGE) {
+        return large::card(random);
+    }
     match random.below(8) {
         0 | 1 => any_card(random),
         2 => coincident(random),
@@ -1207,7 +1227,7 @@ pub fn card(random: &mut Random) -> Card {
 // ------------------------------------------------------------------------------------------------------------------------- damaged cards
 
 /// One plain card of each kind, with and without each limit and each motor that the kind may have.
-pub fn each_kind() -> Vec<Card> {
+pub fn each_kind(edition: &Edition) -> Vec<Card> {
     let mut cards = Vec::new();
     for kind in 0..5 {
         let limits: &[(bool, bool)] = match kind {
@@ -1237,7 +1257,7 @@ pub fn each_kind() -> Vec<Card> {
                 }
                 joint.compliances[0] = 0.125;
                 cards.push(Card {
-                    edition: 1,
+                    edition: edition.number,
                     rate: 64,
                     zero: 0,
                     gravity: -9.75,
@@ -1267,16 +1287,82 @@ pub fn flipped(bytes: &[u8]) -> impl Iterator<Item = Vec<u8>> + '_ {
     })
 }
 
-/// Each float of a card set to each value at which an answer changes.
-pub fn floats_at_borders(bytes: &[u8], bodies: usize, joints: usize) -> Vec<Vec<u8>> {
-    let mut places: Vec<usize> = (4..HEADER_BYTES).step_by(4).collect();
-    for body in 0..bodies {
-        let start = HEADER_BYTES + BODY_BYTES * body;
-        places.extend((start + 2..start + BODY_BYTES).step_by(4));
+fn bits_at(bytes: &[u8], at: usize, width: usize) -> u32 {
+    (at..at + width).fold(0, |number, bit| {
+        number << 1 | u32::from(bytes[bit / 8] >> (7 - bit % 8) & 1)
+    })
+}
+
+fn set_bits(bytes: &mut [u8], at: usize, width: usize, number: u32) {
+    for bit in 0..width {
+        let (place, mask) = ((at + bit) / 8, 0x80 >> ((at + bit) % 8));
+        match number >> (width - 1 - bit) & 1 {
+            0 => bytes[place] &= !mask,
+            _ => bytes[place] |= mask,
+        }
     }
-    for joint in 0..joints {
-        let start = HEADER_BYTES + BODY_BYTES * bodies + JOINT_BYTES * joint;
-        places.extend((start + 3..start + JOINT_BYTES).step_by(4));
+}
+
+/// What a card's first bytes say of where its records are, accepted or not. One of no edition is laid out as one of the first.
+pub struct Places {
+    pub edition: Edition,
+    pub bodies: usize,
+    pub joints: usize,
+}
+
+impl Places {
+    /// None of a card that is shorter than any header.
+    pub fn of(bytes: &[u8]) -> Option<Places> {
+        let edition = Edition::of_number(u32::from(*bytes.first()?)).unwrap_or(EDITION_1);
+        let count = |at| bits_at(bytes, at, edition.count_bits) as usize;
+        (bytes.len() >= LEAST_BYTES).then(|| Places {
+            edition,
+            bodies: count(8),
+            joints: count(8 + edition.count_bits),
+        })
+    }
+
+    /// Where the rate begins, in bits.
+    fn rate(&self) -> usize {
+        8 + 2 * self.edition.count_bits
+    }
+
+    fn body(&self, i: usize) -> usize {
+        self.edition.card_bytes(i, 0)
+    }
+
+    fn joint(&self, i: usize) -> usize {
+        self.edition.card_bytes(self.bodies, i)
+    }
+
+    /// Where the number of a joint's second body begins, in bits.
+    fn second_body(&self, i: usize) -> usize {
+        8 * self.joint(i) + 3 + self.edition.body_number_bits
+    }
+
+    /// Where a joint's bits of its limits begin, in bits.
+    fn limits(&self, i: usize) -> usize {
+        self.second_body(i) + self.edition.body_number_bits
+    }
+
+    /// A joint's kind, where the card has it.
+    fn kind(&self, bytes: &[u8], i: usize) -> Option<u32> {
+        bytes.get(self.joint(i)).map(|byte| u32::from(byte >> 5))
+    }
+}
+
+/// Each float of a card set to each value at which an answer changes.
+pub fn floats_at_borders(bytes: &[u8]) -> Vec<Vec<u8>> {
+    let places = Places::of(bytes).expect("a card");
+    let header = places.body(0);
+    let mut floats: Vec<usize> = (header - 8..header).step_by(4).collect();
+    for body in 0..places.bodies {
+        let start = places.body(body);
+        floats.extend((start + 2..start + BODY_BYTES).step_by(4));
+    }
+    for joint in 0..places.joints {
+        let start = places.joint(joint);
+        floats.extend((start + 3..start + JOINT_BYTES).step_by(4));
     }
     let values = [
         0.0,
@@ -1297,7 +1383,7 @@ pub fn floats_at_borders(bytes: &[u8], bodies: usize, joints: usize) -> Vec<Vec<
         f32::from_bits(0xff800001),
     ];
     let mut cards = Vec::new();
-    for place in places {
+    for place in floats {
         for value in values {
             let mut card = bytes.to_vec();
             card[place..place + 4].copy_from_slice(&value.to_bits().to_be_bytes());
@@ -1307,116 +1393,134 @@ pub fn floats_at_borders(bytes: &[u8], bodies: usize, joints: usize) -> Vec<Vec<
     cards
 }
 
-/// Cards at both sides of each border that is no single field's: lengths, counts, rates, limit pairs, unit lengths, named bodies.
-pub fn at_borders() -> Vec<Vec<u8>> {
-    let mut cards = Vec::new();
-    for card in each_kind() {
-        let bytes = card.encode();
-        for length in 0..bytes.len() {
-            cards.push(bytes[..length].to_vec());
-        }
-        for more in 1..4 {
-            cards.push([bytes.clone(), vec![0; more]].concat());
-        }
-        let mut edited = |edit: &dyn Fn(&mut Card)| {
-            let mut card = card.clone();
-            edit(&mut card);
-            cards.push(card.encode());
-        };
-        for edition in 0..256 {
-            edited(&|card| card.edition = edition);
-        }
-        for rate in 0..1024 {
-            edited(&|card| card.rate = rate);
-        }
-        for zero in 0..4 {
-            edited(&|card| card.zero = zero);
-        }
-        for count in [0, 1, 2, 31, 32, 33, 62, 63] {
-            edited(&|card| card.bodies = vec![Body::UNIT; count]);
-            edited(&|card| card.joints = vec![card.joints[0].clone(); count]);
-            edited(&|card| {
-                card.bodies = vec![Body::UNIT; count];
-                card.joints = vec![card.joints[0].clone(); 32];
-            });
-        }
-        for kind in 0..8 {
-            for bits in 0..16 {
-                edited(&|card| {
-                    let joint = &mut card.joints[0];
-                    joint.kind = kind;
-                    joint.limit1 = bits & 1 != 0;
-                    joint.limit2 = bits & 2 != 0;
-                    joint.motor = bits >> 2;
-                });
-            }
-        }
-        for range in [
-            [1.0, 1.0],
-            [1.0, 1f32.next_up()],
-            [1f32.next_up(), 1.0],
-            [0.0, -0.0],
-            [-0.0, 0.0],
-            [-1.0, -1f32.next_up()],
-            [f32::from_bits(1), 0.0],
-            [1024.0, -1024.0],
-            [7.0, 7.0],
-            [-7.0, -7.0],
-            [7f32.next_up(), 7f32.next_up()],
-            [-7f32.next_up(), -7f32.next_up()],
-        ] {
-            edited(&|card| card.joints[0].limit1_range = range);
-            edited(&|card| card.joints[0].limit2_range = range);
-        }
-        // Squares that sum to 1,023 / 1,024 and 1,025 / 1,024 exactly, and just beyond.
-        for near in [-2.0, -1.0, 0.0, 1.0, 2.0] {
-            let small = near / 65536.0;
-            let low = [31.0, 7.0, 3.0, 2.0 + small].map(|x: f32| x / 32.0);
-            let high = [1.0 + small, 0.0, 0.0, 32.0].map(|x: f32| x / 32.0);
-            for rotation in [low, high, [0.0; 4], [0.5; 4], [2.0, 0.0, 0.0, 0.0]] {
-                edited(&|card| card.bodies[0].rotation = rotation);
-                edited(&|card| card.bodies[1].rotation = rotation);
-                edited(&|card| card.joints[0].basis1 = rotation);
-                edited(&|card| card.joints[0].basis2 = rotation);
-            }
-            // As three squares: 31² + 7² + 13 is no sum of one square more, so the border is met by rounding.
-            let axis_low = [0.96875, 0.21875, (13.0 + small).sqrt() / 32.0];
-            let axis_high = [0.0, (1.0 + small) / 32.0, 1.0];
-            for axis in [axis_low, axis_high, [0.0; 3], [0.6, 0.0, 0.8]] {
-                edited(&|card| card.joints[0].axis = axis);
-            }
-        }
-        for body1 in 0..32 {
-            for body2 in 0..32 {
-                edited(&|card| {
-                    card.joints[0].body1 = body1;
-                    card.joints[0].body2 = body2;
-                });
-            }
-        }
-        for anchored in [[false, false], [true, true], [true, false]] {
-            edited(&|card| {
-                card.bodies = anchored
-                    .map(|anchored| match anchored {
-                        true => Body::ANCHORED,
-                        false => Body::UNIT,
-                    })
-                    .to_vec()
-            });
-        }
+/// Cards of an edition at both sides of each border that is no single float's.
+pub fn at_borders(edition: &Edition) -> Vec<Vec<u8>> {
+    let kinds = each_kind(edition);
+    let mut cards = headers_at_borders(edition, &kinds[0]);
+    for card in &kinds {
+        cards.extend(records_at_borders(edition, card));
     }
     cards
 }
 
-/// A card of 32 bodies, one of which has one bit of its dominance set.
-pub fn dominant(body: usize, bit: usize, anchored: bool) -> Vec<u8> {
-    let mut bodies = vec![Body::UNIT; CAPACITY];
+/// Lengths, editions, counts, rates and zeros.
+fn headers_at_borders(edition: &Edition, card: &Card) -> Vec<Vec<u8>> {
+    let bytes = card.encode();
+    let mut cards: Vec<_> = (0..bytes.len()).map(|n| bytes[..n].to_vec()).collect();
+    cards.extend((1..4).map(|more| [&bytes[..], &[0; 4][..more]].concat()));
+    cards.extend((0..=255).map(|number| [&[number], &bytes[1..]].concat()));
+    let mut edited = |edit: &dyn Fn(&mut Card)| {
+        let mut card = card.clone();
+        edit(&mut card);
+        cards.push(card.encode());
+    };
+    for rate in 0..=edition.last_rate() {
+        edited(&|card| card.rate = rate);
+    }
+    for bit in 0..edition.zero_bits {
+        edited(&|card| card.zero = 1 << bit);
+    }
+    let most = edition.most;
+    for count in [0, 1, 2, most - 1, most, most + 1, edition.last_count()] {
+        edited(&|card| card.bodies = vec![Body::UNIT; count]);
+        edited(&|card| card.joints = vec![card.joints[0].clone(); count]);
+        edited(&|card| {
+            card.bodies = vec![Body::UNIT; count];
+            card.joints = vec![card.joints[0].clone(); most];
+        });
+    }
+    cards
+}
+
+/// Kinds with each of their bits, limit pairs, unit lengths and named bodies.
+fn records_at_borders(edition: &Edition, card: &Card) -> Vec<Vec<u8>> {
+    let mut cards = Vec::new();
+    let mut edited = |edit: &dyn Fn(&mut Card)| {
+        let mut card = card.clone();
+        edit(&mut card);
+        cards.push(card.encode());
+    };
+    for kind in 0..8 {
+        for bits in 0..16 {
+            edited(&|card| {
+                let joint = &mut card.joints[0];
+                joint.kind = kind;
+                joint.limit1 = bits & 1 != 0;
+                joint.limit2 = bits & 2 != 0;
+                joint.motor = bits >> 2;
+            });
+        }
+    }
+    for range in [
+        [1.0, 1.0],
+        [1.0, 1f32.next_up()],
+        [1f32.next_up(), 1.0],
+        [0.0, -0.0],
+        [-0.0, 0.0],
+        [-1.0, -1f32.next_up()],
+        [f32::from_bits(1), 0.0],
+        [1024.0, -1024.0],
+        [7.0, 7.0],
+        [-7.0, -7.0],
+        [7f32.next_up(), 7f32.next_up()],
+        [-7f32.next_up(), -7f32.next_up()],
+    ] {
+        edited(&|card| card.joints[0].limit1_range = range);
+        edited(&|card| card.joints[0].limit2_range = range);
+    }
+    // Squares that sum to 1,023 / 1,024 and 1,025 / 1,024 exactly, and just beyond.
+    for near in [-2.0, -1.0, 0.0, 1.0, 2.0] {
+        let small = near / 65536.0;
+        let low = [31.0, 7.0, 3.0, 2.0 + small].map(|x: f32| x / 32.0);
+        let high = [1.0 + small, 0.0, 0.0, 32.0].map(|x: f32| x / 32.0);
+        for rotation in [low, high, [0.0; 4], [0.5; 4], [2.0, 0.0, 0.0, 0.0]] {
+            edited(&|card| card.bodies[0].rotation = rotation);
+            edited(&|card| card.bodies[1].rotation = rotation);
+            edited(&|card| card.joints[0].basis1 = rotation);
+            edited(&|card| card.joints[0].basis2 = rotation);
+        }
+        // As three squares: 31² + 7² + 13 is no sum of one square more, so the border is met by rounding.
+        let axis_low = [0.96875, 0.21875, (13.0 + small).sqrt() / 32.0];
+        let axis_high = [0.0, (1.0 + small) / 32.0, 1.0];
+        for axis in [axis_low, axis_high, [0.0; 3], [0.6, 0.0, 0.8]] {
+            edited(&|card| card.joints[0].axis = axis);
+        }
+    }
+    // Every number of 5 bits, and of 8 bits each with one bit set.
+    let named = (0..32).chain([32, 64, 128, 199, 200, 255]);
+    let named: Vec<u32> = named
+        .filter(|n| *n < 1 << edition.body_number_bits)
+        .collect();
+    for &body1 in &named {
+        for &body2 in &named {
+            edited(&|card| {
+                card.joints[0].body1 = body1;
+                card.joints[0].body2 = body2;
+            });
+        }
+    }
+    for anchored in [[false, false], [true, true], [true, false]] {
+        edited(&|card| {
+            card.bodies = anchored
+                .map(|anchored| match anchored {
+                    true => Body::ANCHORED,
+                    false => Body::UNIT,
+                })
+                .to_vec()
+        });
+    }
+    cards
+}
+
+/// A card of as many bodies as an edition has, one of which has one bit of its dominance set.
+pub fn dominant(edition: &Edition, body: usize, bit: usize, anchored: bool) -> Vec<u8> {
+    let mut bodies = vec![Body::UNIT; edition.most];
     if anchored {
         bodies[body] = Body::ANCHORED;
     }
     bodies[body].dominance = (1u8 << bit) as i8;
     let card = Card {
-        edition: 1,
+        edition: edition.number,
         rate: 64,
         bodies,
         ..Card::default()
@@ -1425,14 +1529,14 @@ pub fn dominant(body: usize, bit: usize, anchored: bool) -> Vec<u8> {
 }
 
 /// A card with one limited joint, whose first or second limit is in use or only set.
-pub fn limited(kind: u32, second: bool, used: bool, range: [f32; 2]) -> Vec<u8> {
+pub fn limited(edition: &Edition, kind: u32, second: bool, used: bool, range: [f32; 2]) -> Vec<u8> {
     let mut joint = Joint::plain(kind, 0, 1);
     match second {
         true => (joint.limit2, joint.limit2_range) = (used, range),
         false => (joint.limit1, joint.limit1_range) = (used, range),
     }
     let card = Card {
-        edition: 1,
+        edition: edition.number,
         rate: 64,
         bodies: vec![Body::UNIT, Body::ANCHORED],
         joints: vec![joint],
@@ -1445,7 +1549,8 @@ pub fn limited(kind: u32, second: bool, used: bool, range: [f32; 2]) -> Vec<u8> 
 pub fn random_bytes(random: &mut Random, length: usize) -> Vec<u8> {
     let mut bytes: Vec<u8> = (0..length).map(|_| random.bits() as u8).collect();
     let style = random.below(4);
-    if style == 0 || length < 4 {
+    let edition = random.pick(&EDITIONS);
+    if style == 0 || length < LEAST_BYTES {
         return bytes;
     }
     let sparse = random.one_in(2);
@@ -1458,11 +1563,24 @@ pub fn random_bytes(random: &mut Random, length: usize) -> Vec<u8> {
     }
     let bodies = 1 + random.below(32);
     let joints = random.below(33);
-    let rate = random.rate();
-    let first = 1 << 24 | (bodies as u32) << 18 | (joints as u32) << 12 | rate << 2;
-    bytes[..4].copy_from_slice(&first.to_be_bytes());
+    let counts = [bodies, joints].map(|count| count as u32);
+    set_bits(&mut bytes, 0, 8, edition.number);
+    set_bits(&mut bytes, 8, edition.count_bits, counts[0]);
+    set_bits(
+        &mut bytes,
+        8 + edition.count_bits,
+        edition.count_bits,
+        counts[1],
+    );
+    let rate = random.rate(edition.fastest);
+    set_bits(
+        &mut bytes,
+        8 + 2 * edition.count_bits,
+        edition.rate_bits,
+        rate,
+    );
     if style > 1 {
-        bytes.resize(HEADER_BYTES + BODY_BYTES * bodies + JOINT_BYTES * joints, 0);
+        bytes.resize(edition.card_bytes(bodies, joints), 0);
     }
     bytes
 }
@@ -1470,124 +1588,136 @@ pub fn random_bytes(random: &mut Random, length: usize) -> Vec<u8> {
 /// A card to which refusal `number` applies; other damage is left as it is.
 pub fn damage(random: &mut Random, bytes: &mut Vec<u8>, number: u32) {
     if number == 1 {
-        bytes.truncate(random.below(HEADER_BYTES));
+        bytes.truncate(random.below(LEAST_BYTES));
         return;
     }
-    if bytes.len() < HEADER_BYTES {
+    let Some(places) = Places::of(bytes) else {
         return;
-    }
-    let word = u32::from_be_bytes(bytes[..4].try_into().unwrap());
-    let bodies = (word >> 18 & 63) as usize;
-    let joints = (word >> 12 & 63) as usize;
-    let set_word = |bytes: &mut Vec<u8>, word: u32| {
-        bytes[..4].copy_from_slice(&word.to_be_bytes());
-    };
-    let body = |i: usize| HEADER_BYTES + BODY_BYTES * i;
-    let joint = |i: usize| HEADER_BYTES + BODY_BYTES * bodies + JOINT_BYTES * i;
-    // A float within the card's bytes.
-    let set_float = |bytes: &mut Vec<u8>, place: usize, value: f32| {
-        if place + 4 <= bytes.len() {
-            bytes[place..place + 4].copy_from_slice(&value.to_bits().to_be_bytes());
-        }
     };
     match number {
-        2 => bytes[0] = random.pick(&[0, 2, 3, 129, 255]),
-        3 => match random.below(3) {
-            0 => set_word(bytes, word & !(63 << 18)),
-            1 => set_word(bytes, word | 33 << 18),
-            _ => set_word(bytes, word | 33 << 12),
-        },
-        4 => {
-            let rate = random.pick(&[0, 1, 15, 1001, 1023]);
-            set_word(bytes, word & !(1023 << 2) | rate << 2);
+        2..=5 => damage_header(random, bytes, number, &places),
+        6 | 17 => damage_bits(random, bytes, number, &places),
+        7 => {
+            let value = random.pick(&[f32::NAN, f32::INFINITY, 1024f32.next_up(), -2000.0]);
+            let place = match random.below(3) {
+                1 if places.bodies > 0 => {
+                    places.body(random.below(places.bodies)) + 2 + 4 * random.below(10)
+                }
+                2 if places.joints > 0 => {
+                    places.joint(random.below(places.joints)) + 3 + 4 * random.below(6)
+                }
+                _ => places.body(0) - 8,
+            };
+            set_float(bytes, place, value);
         }
-        5 => match random.below(3) {
+        9 => {
+            if places.bodies > 0 {
+                set_float(bytes, places.body(random.below(places.bodies)) + 26, 1.25);
+            }
+        }
+        _ => damage_joints(random, bytes, number, &places),
+    }
+}
+
+/// Where the card has its bytes.
+fn set_float(bytes: &mut [u8], place: usize, value: f32) {
+    if place + 4 <= bytes.len() {
+        bytes[place..place + 4].copy_from_slice(&value.to_bits().to_be_bytes());
+    }
+}
+
+fn damage_header(random: &mut Random, bytes: &mut Vec<u8>, number: u32, places: &Places) {
+    let edition = &places.edition;
+    let (counts, rates) = (edition.count_bits, edition.rate_bits);
+    match number {
+        2 => bytes[0] = random.pick(&[0, 3, 4, 129, 255]),
+        3 => {
+            let most = edition.most as u32;
+            let over = random.pick(&[most + 1, most + 2, edition.last_count() as u32]);
+            match random.below(3) {
+                0 => set_bits(bytes, 8, counts, 0),
+                1 => set_bits(bytes, 8, counts, over),
+                _ => set_bits(bytes, 8 + counts, counts, over),
+            }
+        }
+        4 => {
+            let rate = random.pick(&[0, 1, 15, edition.fastest + 1, edition.last_rate()]);
+            set_bits(bytes, places.rate(), rates, rate);
+        }
+        _ => match random.below(3) {
             0 => bytes.push(random.bits() as u8),
             1 => {
                 bytes.pop();
             }
-            _ => bytes.truncate(HEADER_BYTES + random.below(bytes.len() - HEADER_BYTES + 1)),
+            _ => bytes.truncate(LEAST_BYTES + random.below(bytes.len() - LEAST_BYTES + 1)),
         },
-        6 => {
-            let place = match random.below(3) {
-                0 => Some((3, 1 << random.below(2))),
-                1 if bodies > 0 => Some((body(random.below(bodies)) + 1, 1 << random.below(4))),
-                _ if joints > 0 => Some((joint(random.below(joints)) + 2, 1 << random.below(7))),
-                _ => Some((3, 1)),
-            };
-            if let Some((place, bit)) = place {
-                if place < bytes.len() {
-                    bytes[place] |= bit;
-                }
-            }
+    }
+}
+
+/// 6: a zero bit of header, body or joint. 17: a bit of a moving body's dominance.
+fn damage_bits(random: &mut Random, bytes: &mut [u8], number: u32, places: &Places) {
+    let edition = &places.edition;
+    let moving = |i: &usize| {
+        bytes
+            .get(places.body(*i))
+            .is_some_and(|byte| byte & 0x80 == 0)
+    };
+    let moving: Vec<usize> = (0..places.bodies).filter(moving).collect();
+    let bit = match (number, random.below(3)) {
+        (17, _) if moving.is_empty() => return,
+        (17, _) => 8 * places.body(random.pick(&moving)) + 4 + random.below(8),
+        (_, 1) if places.bodies > 0 => {
+            8 * places.body(random.below(places.bodies)) + 12 + random.below(4)
         }
-        17 => {
-            let moving = |i: &usize| bytes.get(body(*i)).is_some_and(|byte| byte & 0x80 == 0);
-            let moving: Vec<usize> = (0..bodies).filter(moving).collect();
-            if !moving.is_empty() {
-                // The last four bits of a body's first byte, and the first four of its second.
-                let bit = random.below(8);
-                let (at, bit) = (body(random.pick(&moving)) + bit / 4, (bit + 4) % 8);
-                if at < bytes.len() {
-                    bytes[at] |= 0x80 >> bit;
-                }
-            }
+        (_, 2) if places.joints > 0 => {
+            8 * places.joint(random.below(places.joints)) + 23
+                - random.below(edition.joint_zero_bits)
         }
-        7 => {
-            let value = random.pick(&[f32::NAN, f32::INFINITY, 1024f32.next_up(), -2000.0]);
-            let place = match random.below(3) {
-                0 => 4,
-                1 if bodies > 0 => body(random.below(bodies)) + 2 + 4 * random.below(10),
-                _ if joints > 0 => joint(random.below(joints)) + 3 + 4 * random.below(6),
-                _ => 8,
-            };
-            set_float(bytes, place, value);
-        }
+        _ => places.rate() + edition.rate_bits + random.below(edition.zero_bits),
+    };
+    if bit / 8 < bytes.len() {
+        set_bits(bytes, bit, 1, 1);
+    }
+}
+
+/// 19: an angle limit that is too wide. 8: limits in use the wrong way round. 10: one body twice.
+fn damage_joints(random: &mut Random, bytes: &mut [u8], number: u32, places: &Places) {
+    // Where the card has a joint's bits.
+    let whole = |i: &usize| places.joint(*i) + 2 < bytes.len();
+    let there: Vec<usize> = (0..places.joints).filter(whole).collect();
+    let first = |i: usize| places.joint(i) + 3 + 4 * 21;
+    match number {
         19 => {
-            let turns = |i: &usize| {
-                let kind = bytes.get(joint(*i)).map(|byte| (byte >> 5) as u32);
-                kind == Some(HINGE) || kind == Some(BALL)
-            };
-            let turning: Vec<usize> = (0..joints).filter(turns).collect();
-            if !turning.is_empty() {
-                let at = joint(random.pick(&turning));
-                let second = (bytes[at] >> 5) as u32 == BALL && random.one_in(2);
-                let first = at + 3 + 4 * if second { 23 } else { 21 };
-                let angle = random.pick(&[7f32.next_up(), 8.0, 1024.0]);
-                if at + 1 < bytes.len() {
-                    bytes[at + 1] |= if second { 0x02 } else { 0x04 };
-                }
-                match random.one_in(2) {
-                    true => set_float(bytes, first, -angle),
-                    false => set_float(bytes, first + 4, angle),
-                }
+            let turns = |i: &&usize| matches!(places.kind(bytes, **i), Some(HINGE | BALL));
+            let turning: Vec<usize> = there.iter().filter(turns).copied().collect();
+            if turning.is_empty() {
+                return;
+            }
+            let i = random.pick(&turning);
+            let second = places.kind(bytes, i) == Some(BALL) && random.one_in(2);
+            set_bits(bytes, places.limits(i) + usize::from(second), 1, 1);
+            let range = first(i) + 8 * usize::from(second);
+            let angle = random.pick(&[7f32.next_up(), 8.0, 1024.0]);
+            match random.one_in(2) {
+                true => set_float(bytes, range, -angle),
+                false => set_float(bytes, range + 4, angle),
             }
         }
         8 => {
-            for i in 0..joints {
-                let first = joint(i) + 3 + 4 * 21;
-                if joint(i) + 2 < bytes.len() && bytes[joint(i) + 1] & 0x04 != 0 {
-                    set_float(bytes, first, 1.0);
-                    set_float(
-                        bytes,
-                        first + 4,
-                        random.pick(&[1f32.next_down(), -1.0, 0.0]),
-                    );
+            for i in there {
+                if bits_at(bytes, places.limits(i), 1) == 1 {
+                    set_float(bytes, first(i), 1.0);
+                    let below = random.pick(&[1f32.next_down(), -1.0, 0.0]);
+                    set_float(bytes, first(i) + 4, below);
                 }
             }
         }
-        9 => {
-            if bodies > 0 {
-                set_float(bytes, body(random.below(bodies)) + 2 + 4 * 6, 1.25);
-            }
-        }
         _ => {
-            for i in 0..joints {
-                if joint(i) + 1 < bytes.len() && (i == 0 || random.one_in(3)) {
-                    // Both names' low bits: the same body twice.
-                    let at = joint(i);
-                    let name = bytes[at] & 31;
-                    bytes[at + 1] = name << 3 | bytes[at + 1] & 7;
+            let width = places.edition.body_number_bits;
+            for i in there {
+                if i == 0 || random.one_in(3) {
+                    let body1 = bits_at(bytes, 8 * places.joint(i) + 3, width);
+                    set_bits(bytes, places.second_body(i), width, body1);
                 }
             }
         }
@@ -1697,7 +1827,7 @@ mod tests {
             let card = card(&mut Random::of_case(1, case));
             assert!(card::check(&card.encode()).is_ok(), "{case} {card:?}");
         }
-        for card in each_kind() {
+        for card in EDITIONS.iter().flat_map(each_kind) {
             assert!(card::check(&card.encode()).is_ok(), "{card:?}");
         }
     }
@@ -1731,11 +1861,14 @@ mod tests {
 
     #[test]
     fn damage_reaches_each_refusal() {
-        for number in card::REFUSALS {
+        for (edition, number) in EDITIONS
+            .iter()
+            .flat_map(|edition| card::REFUSALS.map(|number| (edition, number)))
+        {
             let mut reached = 0;
             for case in 0..200 {
                 let random = &mut Random::of_case(4, case);
-                let mut bytes = each_kind()[random.below(18)].encode();
+                let mut bytes = each_kind(edition)[random.below(18)].encode();
                 damage(random, &mut bytes, number);
                 reached += (table::check(&bytes) == number) as u32;
             }

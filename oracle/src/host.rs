@@ -1,5 +1,6 @@
 //! The Rattle's own calls, by the static libraries of the crates `host` and `host_parts`. What each takes and gives is said there.
 
+use crate::convert::Converted;
 use crate::table::{Ran, Sizes};
 
 #[link(name = "host_parts", kind = "static")]
@@ -104,6 +105,20 @@ extern "C" {
         ticks: u32,
         done: *mut u32,
     ) -> u32;
+    pub fn linkage_to_edition_1(
+        card: *const u8,
+        n: usize,
+        out: *mut u8,
+        m: usize,
+        length: *mut u32,
+    ) -> u32;
+    pub fn linkage_to_edition_2(
+        card: *const u8,
+        n: usize,
+        out: *mut u8,
+        m: usize,
+        length: *mut u32,
+    ) -> u32;
 }
 
 /// A count before the call that is to write it: what no call answers.
@@ -145,6 +160,23 @@ fn run(card: &[u8], state: &mut [f32], ticks: u32) -> Ran {
     Ran { number, done }
 }
 
+type Convert = unsafe extern "C" fn(*const u8, usize, *mut u8, usize, *mut u32) -> u32;
+
+fn converted(call: Convert, card: &[u8], out: &mut [u8]) -> Converted {
+    let mut length = UNWRITTEN;
+    // SAFETY: card and slice live through the call, which writes the slice and the length.
+    let number = unsafe {
+        call(
+            card.as_ptr(),
+            card.len(),
+            out.as_mut_ptr(),
+            out.len(),
+            &mut length,
+        )
+    };
+    Converted { number, length }
+}
+
 /// The table's calls of the Rattle.
 pub fn table() -> crate::compare::Table {
     crate::compare::Table {
@@ -158,6 +190,8 @@ pub fn table() -> crate::compare::Table {
             linkage_tick(card.as_ptr(), card.len(), state.as_mut_ptr(), state.len())
         },
         run,
+        to_edition_1: |card, out| converted(linkage_to_edition_1, card, out),
+        to_edition_2: |card, out| converted(linkage_to_edition_2, card, out),
     }
 }
 

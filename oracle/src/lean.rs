@@ -1,7 +1,7 @@
 //! Document 01's tick in lean Rust: a card decoded once, avian's functions on components that are kept over the ticks of a run, and nothing taken from the
 //! heap. The benchmark times it beside the Rattle. `table` says what is right.
 
-use crate::card::{self, finite, Card, BODY_NUMBERS, CAPACITY, JOINT_NUMBERS};
+use crate::card::{self, finite, Card, BODY_NUMBERS, EDITION_2, JOINT_NUMBERS};
 use crate::compare::{Table, ORACLE};
 use crate::math;
 use crate::solver::{for_any_joint, AnyJoint};
@@ -25,6 +25,9 @@ pub const LEAN: Table = Table {
     run,
     ..ORACLE
 };
+
+/// The most bodies, and the most joints, of any edition.
+const CAPACITY: usize = EDITION_2.most;
 
 thread_local! {
     static LINKAGE: RefCell<Linkage> = RefCell::new(Linkage::new());
@@ -409,7 +412,7 @@ mod tests {
             rattle: LEAN,
         };
         let mut hits = Hits::default();
-        tables.runs(2, 1000, &mut hits).unwrap();
+        tables.runs(2, 2000, &mut hits).unwrap();
         assert_eq!(hits.missed(), [""; 0], "{}", hits.lines());
         let mut hits = Hits::default();
         tables.states(2, 4000, &mut hits).unwrap();

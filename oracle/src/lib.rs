@@ -2,10 +2,12 @@
 
 pub mod card;
 pub mod compare;
+pub mod convert;
 pub mod families;
 pub mod generate;
 #[cfg(feature = "host")]
 pub mod host;
+pub mod large;
 pub mod lean;
 pub mod parts;
 pub mod solver;

@@ -356,7 +356,7 @@ mod tests {
             of(
                 0,
                 &Card {
-                    edition: 2,
+                    edition: 3,
                     ..Card::example()
                 }
             ),

@@ -1,9 +1,9 @@
 -- A card that no check refuses, row by row.
-use Prim.Native.Nat.{ℕ, zero, suc, _+_, _*_, _<_}
+use Prim.Native.Nat.{ℕ, zero, suc, _+_, _*_, _≤_, _<_}
 use native.Mathlib.Nat.{le-of-suc-le-suc}
 use native.Mathlib.Omega.{arith}
 use mathlib.Core.Path.{_≡_, refl, sym, subst, _∙_}
-use mathlib.Core.Bool.{Bool, true, false, _||_, _&&_, cond, true≢false}
+use mathlib.Core.Bool.{Bool, true, false, _||_, _&&_, true≢false}
 use mathlib.Core.List.{List, [], _∷_}
 use mathlib.Core.Logic.{inl}
 use lib.ListN.{length, getD, List·getD-eq-default}
@@ -21,31 +21,12 @@ use Rattle.card.specs.Format.{Range}
 use Rattle.card.specs.Format.{Any, Bounded, NotNegative, Cap}
 use Rattle.card.specs.Format.{bitsAt, bound, Cell, widthOf, numbersAt, recordsAt, anyCell, unusedSet, outOf, outOfRange}
 use Rattle.card.specs.Card.{at, body, noKind, kinds, kindAt, kindOf, editions, editionAt, cardOf, float}
-use Rattle.card.specs.Checks.{any, misfit, dominant, wide, tooWide, anchored, wrongPair, Refusal, refuse, firstOf, cardChecks, checkOf}
+use Rattle.card.specs.Checks.{any, misfit, dominant, wide, tooWide, anchored, wrongPair, cardChecks, checkOf}
 use Rattle.card.specs.Accepted.{Real, In, Ranged, Narrow, Accepted}
 use Rattle.card.proofs.Bools.{both, or-left, or-right}
 use Rattle.card.proofs.Cut.{records-length, record-at}
-
--- ---- a row of the checks, by its number
-
-abbrev pub testOf : ℕ → List Refusal → Bool
-testOf n [] = false
-testOf n (refuse k b ∷ checks) = cond (eqb n k) b (testOf n checks)
-
-abbrev pub numbered : List Refusal → Bool
-numbered [] = true
-numbered (refuse zero b ∷ checks) = false
-numbered (refuse (suc k) b ∷ checks) = numbered checks
-
-either : (c b : Bool) → b ≡ false → cond c false b ≡ false
-either true b e = refl
-either false b e = e
-
-pub passed : (checks : List Refusal) → T (numbered checks) → firstOf checks ≡ 0 → (n : ℕ) → testOf n checks ≡ false
-passed [] t e n = refl
-passed (refuse zero b ∷ checks) t e n = absurd t
-passed (refuse (suc k) true ∷ checks) t e n = absurd (omega arith)
-passed (refuse (suc k) false ∷ checks) t e n = either (eqb n (suc k)) (testOf n checks) (passed checks t e n)
+use Rattle.card.proofs.Checking.{passed}
+use Rattle.card.proofs.Editions.{most-200}
 
 pub any-not : (p : List ℕ → Bool) (l : List (List ℕ)) (i : ℕ) → i < length l → any p l ≡ false → p (getD l i []) ≡ false
 unfolding any
@@ -195,6 +176,20 @@ accepted card z =
                 };
           };
     }
+
+-- ---- 1
+
+pub at-least-12 : (card : List ℕ) → checkOf card ≡ 0 → 12 ≤ length card
+unfolding checkOf
+at-least-12 card z = ltb-false (length card) 12 (passed (cardChecks (editionAt card) card (cardOf card)) tt z 1)
+
+-- ---- 3
+
+pub at-most-200 : (card : List ℕ) → checkOf card ≡ 0 → let h = cardOf card .header in (at 1 h ≤ 200) × (at 2 h ≤ 200)
+at-most-200 card z =
+    let a = accepted card z in
+    let most = most-200 (bitsAt card 0 8) (a .edition) in
+    (omega (arith, a .has .few-bodies, most), omega (arith, a .has .few-joints, most))
 
 -- ---- 17
 

@@ -17,6 +17,15 @@ unfolding anyTo
 first f zero = sym (or-false (f 0))
 first f (suc n) = rw (first f n) (or-assoc (f 0) (anyTo (λ k. f (suc k)) n) (f (suc n)))
 
+-- ---- the numbers of cells in two parts
+
+pub numbers-append : (cs ds : List Cell) (l : List ℕ) (p : ℕ) → numbersAt (cs ++ ds) l p ≡ numbersAt cs l p ++ numbersAt ds l (p + widthOf cs)
+unfolding numbersAt
+numbers-append [] ds l p = ap (numbersAt ds l) (omega arith)
+numbers-append (c ∷ cs) ds l p =
+    let e : p + c .width + widthOf cs ≡ p + (c .width + widthOf cs) = omega arith in
+    rw (numbers-append cs ds l (p + c .width), e)
+
 -- ---- fields of floats
 
 -- so many floats, when they have use, and their range

@@ -10,7 +10,7 @@ use Rattle.card.specs.Format.{bitsAt, Cell, widthOf, numbersAt, recordsA
 
 -- ---- lists
 
-getD-take : (l : List ℕ) (n i : ℕ) → i < n → getD (take n l) i 0 ≡ getD l i 0
+pub getD-take : (l : List ℕ) (n i : ℕ) → i < n → getD (take n l) i 0 ≡ getD l i 0
 getD-take l zero i h = absurd (not-suc-le-zero h)
 getD-take [] (suc n) i h = refl
 getD-take (x ∷ l) (suc n) zero h = refl

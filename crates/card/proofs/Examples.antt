@@ -10,4 +10,17 @@ use Rattle.card.specs.Examples.{Examples}
 
 pub examples : Examples
 unfolding ofBits ofFields neg add mul sum round units odd size span climb le lt eq dotOf lengthSquaredOf bitsAt numbersAt recordsAt anyCell outOf outside kindAt editionOf cardOf any offUnit checkOf
-examples = record { size = refl; short = refl; slow = refl; accepted = refl }
+examples =
+    record {
+      size = refl;
+      short = refl;
+      slow = refl;
+      accepted = refl;
+      size-2 = refl;
+      fastest-2 = refl;
+      faster-2 = refl;
+      crowded-2 = refl;
+      slow-2 = refl;
+      short-2 = refl;
+      shorter-2 = refl;
+    }

@@ -35,14 +35,14 @@ module _ (f : List ℕ → Faults) where
 
 -- ---- a loop over the records of a row
 
-module _ (f : List ℕ → Faults) (cs : List Cell) (size : ℕ) (whole : widthOf cs ≡ 8 * size) (l : List ℕ) where
+module _ (f : List ℕ → Faults) (cs : List Cell) (l : List ℕ) where
   -- what is found, with what is still to be looked at
   abbrev pub Still : Faults → ℕ → ℕ → Faults → Type 0
   Still a from left total = orFaults a (faultsOf f (recordsAt cs l (8 * from) left)) ≡ total
 
-  pub turn : (a : Faults) (from left : ℕ) {r o total : Faults} (n : ℕ) → 0 < left → n ≡ size → r ≡ f (numbersAt cs (take n (drop from l)) 0) → o ≡ orFaults a r
+  pub turn : (size : ℕ) → widthOf cs ≡ 8 * size → (a : Faults) (from left : ℕ) {r o total : Faults} (n : ℕ) → 0 < left → n ≡ size → r ≡ f (numbersAt cs (take n (drop from l)) 0) → o ≡ orFaults a r
       → Still a from left total → Still o (from + size) (left - 1) total
-  turn a from left {r} {o} {total} n some e er eo still =
+  turn size whole a from left {r} {o} {total} n some e er eo still =
       let next : 8 * from + widthOf cs ≡ 8 * (from + size) = omega arith in
       let numbers : r ≡ f (numbersAt cs l (8 * from)) = er ∙ ap f (numbers-part l from n cs (omega arith)) in
       let rest = recordsAt cs l (8 * (from + size)) (left - 1) in

@@ -4,12 +4,12 @@ pub mod Checking
 pub mod Loops
 pub mod Packed
 pub mod Cells
+pub mod Editions
 pub mod Cut
 pub mod Faulty
 pub mod RecordFaults
 pub mod Pairs
 pub mod Unused
 pub mod CheckRows
-pub mod Edition1
 pub mod Accepted
 pub mod Examples

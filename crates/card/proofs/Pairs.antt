@@ -24,12 +24,12 @@ anchored-at l at n a k h e eb =
 
 -- ---- a search over the joints
 
-module _ (p : List ℕ → Bool) (cs : List Cell) (size : ℕ) (whole : widthOf cs ≡ 8 * size) (l : List ℕ) where
+module _ (p : List ℕ → Bool) (cs : List Cell) (l : List ℕ) where
   -- what is found is found among those still to be looked at
   abbrev pub Left : ℕ → ℕ → Bool → Type 0
   Left from left total = any p (recordsAt cs l (8 * from) left) ≡ total
 
-  module _ (from left n : ℕ) (some : 0 < left) (e : n ≡ size) where
+  module _ (size : ℕ) (whole : widthOf cs ≡ 8 * size) (from left n : ℕ) (some : 0 < left) (e : n ≡ size) where
     abbrev rest : List (List ℕ)
     rest = recordsAt cs l (8 * (from + size)) (left - 1)
 

@@ -1,5 +1,6 @@
 -- The faults of each record, as its function finds them.
-use Prim.Native.Nat.{ℕ}
+use Prim.Native.Nat.{ℕ, _+_, _*_, _-_}
+use native.Mathlib.Omega.{arith}
 use mathlib.Core.Path.{_≡_, refl, ap, _∙_}
 use mathlib.Core.Bool.{Bool, true, false, not, _||_, _&&_, or-false}
 use mathlib.Core.List.{List, [], _∷_, _++_}
@@ -7,21 +8,19 @@ use lib.Dec.{eqb, ltb}
 use lib.Ieee.{neg}
 use Rattle.vector.specs.Rotation.{normSquaredOf}
 use Rattle.scalar.specs.Arith.{f0, largest}
-use Rattle.card.specs.Format.{Range}
-use Rattle.card.specs.Format.{Bounded, NotNegative, Cap}
+use Rattle.card.specs.Format.{Bounded, NotNegative}
 use Rattle.card.specs.declared.records.HeaderBits.{HeaderBits}
 use Rattle.card.specs.declared.records.BodyBits.{BodyBits}
 use Rattle.card.specs.declared.records.JointBits.{JointBits}
 use Rattle.card.specs.declared.kinds.JointKind.{JointKind}
 use Rattle.card.specs.declared.checks.Faults.{Faults}
-use Rattle.card.specs.Format.{bound, Cell, numbersAt, unusedSet, outOf}
-use Rattle.card.specs.Card.{at, flag, always, never, bits, moving, body, kindOf, compliant, motored}
-use Rattle.card.specs.Checks.{offUnit}
-use Rattle.card.specs.Parts.{header1, joint1, floatAt, vec3At, quatAt, wideAt, limitAt, normsAt, headerBits, bodyBits, jointBits, kindFor, setAt, outsideAt, usedOut, faults, fieldFaults, headerFaults, bodyFaults, jointFaults}
-use Rattle.card.proofs.Cells.{Row, anyAt, fieldwise, record-fieldwise}
-
-abbrev pub row : ℕ → (List ℕ → Bool) → Range → Row
-row n used range = record { count = n; used = used; range = range }
+use Rattle.card.specs.Format.{bound, Cell, widthOf, numbersAt, anyCell, unusedSet, outOf}
+use Rattle.card.specs.Card.{at, flag, always, never, bits, header, moving, body, motored}
+use Rattle.card.specs.Checks.{misfit, tooWide, reversed, offUnit, offAxis}
+use Rattle.card.specs.Parts.{floatAt, vec3At, quatAt, wideAt, limitAt, normsAt, headerBits, bodyBits, jointBits, kindFor, anyTo, setAt, outsideAt, usedOut, faults, fieldFaults, headerFaults, bodyFaults, jointFaults}
+use Rattle.card.proofs.Cells.{Row, cellOf, anyAt, fieldwise, record-fieldwise}
+use Rattle.card.proofs.Cells as cells
+use Rattle.card.proofs.Editions.{row, header-cells, header-rows, HeaderOf, joint-cells, joint-rows, JointOf, joint-numbers}
 
 abbrev pub isSet : ℕ → Bool
 isSet n = not (eqb n 0)
@@ -35,31 +34,35 @@ beyond ns c n = outOf (c .range) n && c .used ns
 
 -- ---- the header
 
-abbrev pub header-cells : List Cell
-header-cells = bits 8 always ++ bits 6 always ++ bits 6 always ++ bits 10 always ++ bits 2 never
+-- its floats begin at byte a and at byte b
+abbrev header-found : List ℕ → HeaderBits → ℕ → ℕ → Faults
+header-found l h a b =
+    fieldFaults (fieldFaults (faults (isSet (h .zero)) false false false false false) l true (neg bound) bound a 1) l true f0 bound b 1
 
-abbrev pub header-rows : List Row
-header-rows = row 1 always Bounded ∷ row 1 always NotNegative ∷ []
-
-abbrev header-found : List ℕ → HeaderBits → Faults
-header-found l h =
-    fieldFaults (fieldFaults (faults (isSet (h .zero)) false false false false false) l true (neg bound) bound 4 1) l true f0 bound 8 1
-
-module _ (l : List ℕ) where
+module _ (l : List ℕ) (counts rate zeros a b : ℕ) (first : widthOf (header-cells counts rate zeros) ≡ 8 * a) (second : 8 * a + 32 ≡ 8 * b) where
   abbrev header-numbers : List ℕ
-  header-numbers = numbersAt header1 l 0
+  header-numbers = numbersAt (header counts rate zeros) l 0
 
-  pub header-unused : unusedSet header1 header-numbers ≡ (header-found l (headerBits header-numbers) .bits)
+  header-unused : unusedSet (header counts rate zeros) header-numbers ≡ (header-found l (headerBits header-numbers) a b .bits)
   unfolding fieldFaults setAt headerBits numbersAt outOf
-  header-unused = record-fieldwise (unused header-numbers) l header-cells header-rows ∙ simp or-false
+  header-unused = record-fieldwise (unused header-numbers) l (header-cells counts rate zeros) header-rows ∙ simp or-false
 
-  pub header-beyond : usedOut header1 header-numbers ≡ (header-found l (headerBits header-numbers) .floats)
+  header-beyond : usedOut (header counts rate zeros) header-numbers ≡ (header-found l (headerBits header-numbers) a b .floats)
   unfolding fieldFaults outsideAt headerBits numbersAt outOf
-  header-beyond = record-fieldwise (beyond header-numbers) l header-cells header-rows
+  header-beyond =
+      record-fieldwise (beyond header-numbers) l (header-cells counts rate zeros) header-rows ∙ ap (fieldwise (beyond header-numbers) l false header-rows) first
+      ∙ ap (λ q. anyTo (cells.floatAt (beyond header-numbers) l (cellOf (row 1 always Bounded)) (8 * a)) 1 || anyTo (cells.floatAt (beyond header-numbers) l (cellOf (row 1 always NotNegative)) q) 1) second
 
-  pub header-is : header-found l (headerBits header-numbers) ≡ headerFaults header-numbers
+  header-is : header-found l (headerBits header-numbers) a b ≡ headerFaults (header counts rate zeros) header-numbers
   unfolding headerFaults fieldFaults
   header-is = rw (header-unused, header-beyond) refl
+
+-- as the calls give them
+pub header-are : (l : List ℕ) (cs : List Cell) {bytes : ℕ} → HeaderOf cs bytes → {h : HeaderBits} {f g : Faults} → h ≡ headerBits (numbersAt cs l 0)
+    → f ≡ fieldFaults (faults (isSet (h .zero)) false false false false false) l true (neg bound) bound (bytes - 8) 1
+    → g ≡ fieldFaults f l true f0 bound (bytes - 4) 1 → g ≡ headerFaults cs (numbersAt cs l 0)
+header-are l cs {bytes} H eh ef eg =
+    rw (eg, ef, eh, H .is) (header-is l (H .counts) (H .rate) (H .zeros) (bytes - 8) (bytes - 4) (omega (arith, H .whole)) (omega (arith, H .whole)))
 
 -- ---- a body
 
@@ -110,16 +113,7 @@ module _ (l : List ℕ) where
   unfolding bodyFaults fieldFaults quatAt floatAt numbersAt bodyBits
   body-is = rw (body-unused, body-beyond) refl
 
--- ---- a joint of edition 1
-
-abbrev pub joint-cells : List Cell
-joint-cells = bits 3 always ++ bits 5 always ++ bits 5 always ++ bits 1 always ++ bits 1 always ++ bits 2 always ++ bits 7 never
-
-abbrev pub joint-rows : List Row
-joint-rows =
-    row 6 always Bounded ∷ row 8 (λ ns. kindOf ns .bases) Bounded ∷ row 3 (λ ns. kindOf ns .axis) Bounded
-    ∷ row 1 (compliant 0) NotNegative ∷ row 1 (compliant 1) NotNegative ∷ row 1 (compliant 2) NotNegative ∷ row 1 (compliant 3) NotNegative
-    ∷ row 2 (flag 3) Bounded ∷ row 2 (flag 4) Bounded ∷ row 2 motored Bounded ∷ row 1 motored Cap ∷ row 2 motored Bounded ∷ []
+-- ---- a joint
 
 abbrev joint-fields : List ℕ → JointBits → JointKind → Faults
 joint-fields l b k =
@@ -139,51 +133,66 @@ joint-fields l b k =
     let f11 = fieldFaults f10 l motor f0 largest 111 1 in
     fieldFaults f11 l motor (neg bound) bound 115 2
 
-abbrev joint-found : List ℕ → JointBits → JointKind → Faults → Faults
-joint-found l b k g = faults (g .bits || not (k .fits)) false (g .floats) (k .angles && (wideAt l 87 || wideAt l 95)) (limitAt l 87 || limitAt l 95) (normsAt l (k .bases) (k .axis))
+abbrev joint-found : List ℕ → JointKind → Bool → Bool → Faults
+joint-found l k bits floats = faults (bits || not (k .fits)) false floats (k .angles && (wideAt l 87 || wideAt l 95)) (limitAt l 87 || limitAt l 95) (normsAt l (k .bases) (k .axis))
 
-module _ (l : List ℕ) where
-  abbrev joint-numbers : List ℕ
-  joint-numbers = numbersAt joint1 l 0
+abbrev joint-kind : List ℕ → JointKind
+joint-kind ns = kindFor (at 0 ns) (flag 3 ns) (flag 4 ns) (motored ns)
+
+module _ (l : List ℕ) (cs : List Cell) (J : JointOf cs) where
+  abbrev before-floats : List Cell
+  before-floats = joint-cells (J .numbers) (J .zeros)
+
+  abbrev ns : List ℕ
+  ns = numbersAt cs l 0
 
   abbrev b : JointBits
-  b = jointBits joint-numbers
+  b = jointBits ns
 
-  abbrev k : JointKind
-  k = kindFor (at 0 joint-numbers) (flag 3 joint-numbers) (flag 4 joint-numbers) (motored joint-numbers)
-
-  joint-first : anyAt (unused joint-numbers) l joint-cells 0 ≡ isSet (b .zero)
+  joint-first : anyAt (unused ns) l before-floats 0 ≡ isSet (b .zero)
   unfolding jointBits numbersAt
-  joint-first = or-false (isSet (at 6 joint-numbers))
+  joint-first = rw (J .is) (or-false (isSet (at 6 (numbersAt before-floats l 0))))
 
-  joint-unused : unusedSet joint1 joint-numbers ≡ (joint-fields l b k .bits)
+  joint-fieldwise : (p : Cell → ℕ → Bool) → anyCell p cs ns ≡ fieldwise p l (anyAt p l before-floats 0) joint-rows 24
+  joint-fieldwise p =
+      ap (λ ds. anyCell p ds (numbersAt ds l 0)) (J .is) ∙ record-fieldwise p l before-floats joint-rows ∙ ap (fieldwise p l (anyAt p l before-floats 0) joint-rows) (J .whole)
+
+  joint-unused : unusedSet cs ns ≡ (joint-fields l b (joint-kind ns) .bits)
   unfolding fieldFaults setAt jointBits kindFor
-  joint-unused = record-fieldwise (unused joint-numbers) l joint-cells joint-rows ∙ ap (λ found. fieldwise (unused joint-numbers) l found joint-rows 24) joint-first
+  joint-unused = joint-fieldwise (unused ns) ∙ ap (λ found. fieldwise (unused ns) l found joint-rows 24) joint-first
 
-  joint-beyond : usedOut joint1 joint-numbers ≡ (joint-fields l b k .floats)
+  joint-beyond : usedOut cs ns ≡ (joint-fields l b (joint-kind ns) .floats)
   unfolding fieldFaults outsideAt outOf jointBits kindFor
-  joint-beyond = record-fieldwise (beyond joint-numbers) l joint-cells joint-rows
+  joint-beyond = joint-fieldwise (beyond ns)
 
-  pub joint-is : joint-found l b k (joint-fields l b k) ≡ jointFaults joint-numbers
-  unfolding jointFaults wideAt limitAt normsAt vec3At quatAt floatAt numbersAt jointBits kindFor
-  joint-is = rw (joint-unused, joint-beyond) refl
+  -- what the bits before the floats are is open
+  joint-others : (bits floats : Bool) → joint-found l (joint-kind ns) bits floats ≡ faults (bits || misfit ns) false floats (tooWide ns) (reversed 28 ns || reversed 30 ns) (offAxis ns)
+  unfolding wideAt limitAt normsAt vec3At quatAt floatAt numbersAt kindFor
+  joint-others bits floats =
+      joint-numbers l 0 cs J (λ ms. joint-found l (joint-kind ms) bits floats ≡ faults (bits || misfit ms) false floats (tooWide ms) (reversed 28 ms || reversed 30 ms) (offAxis ms))
+      (λ a0 a1 a2 a3 a4 a5 a6. refl)
 
-  -- as the calls give them
-  pub joint-are : {b' : JointBits} {k' : JointKind} {f1 f2 f3 f4 f5 f6 f7 f8 f9 f10 f11 f12 : Faults} {s t u v w : Bool}
-      → b' ≡ b → k' ≡ kindFor (b' .kind) (b' .first) (b' .second) (isSet (b' .motor))
-      → f1 ≡ fieldFaults (faults (isSet (b' .zero)) false false false false false) l true (neg bound) bound 3 6
-      → f2 ≡ fieldFaults f1 l (k' .bases) (neg bound) bound 27 8
-      → f3 ≡ fieldFaults f2 l (k' .axis) (neg bound) bound 59 3
-      → f4 ≡ fieldFaults f3 l (ltb 0 (k' .compliances)) f0 bound 71 1
-      → f5 ≡ fieldFaults f4 l (ltb 1 (k' .compliances)) f0 bound 75 1
-      → f6 ≡ fieldFaults f5 l (ltb 2 (k' .compliances)) f0 bound 79 1
-      → f7 ≡ fieldFaults f6 l (ltb 3 (k' .compliances)) f0 bound 83 1
-      → f8 ≡ fieldFaults f7 l (b' .first) (neg bound) bound 87 2
-      → f9 ≡ fieldFaults f8 l (b' .second) (neg bound) bound 95 2
-      → f10 ≡ fieldFaults f9 l (isSet (b' .motor)) (neg bound) bound 103 2
-      → f11 ≡ fieldFaults f10 l (isSet (b' .motor)) f0 largest 111 1
-      → f12 ≡ fieldFaults f11 l (isSet (b' .motor)) (neg bound) bound 115 2
-      → s ≡ wideAt l 87 → t ≡ wideAt l 95 → u ≡ limitAt l 87 → v ≡ limitAt l 95 → w ≡ normsAt l (k' .bases) (k' .axis)
-      → faults (f12 .bits || not (k' .fits)) false (f12 .floats) (k' .angles && (s || t)) (u || v) w ≡ jointFaults joint-numbers
-  unfolding jointBits
-  joint-are eb ek e1 e2 e3 e4 e5 e6 e7 e8 e9 e10 e11 e12 es et eu ev ew = rw (e12, e11, e10, e9, e8, e7, e6, e5, e4, e3, e2, e1, es, et, eu, ev, ew, ek, eb) joint-is
+  joint-is : let g = joint-fields l b (joint-kind ns) in joint-found l (joint-kind ns) (g .bits) (g .floats) ≡ jointFaults cs ns
+  unfolding jointFaults
+  joint-is = let g = joint-fields l b (joint-kind ns) in rw (joint-unused, joint-beyond) (joint-others (g .bits) (g .floats))
+
+-- as the calls give them
+pub joint-are : (l : List ℕ) (cs : List Cell) → JointOf cs → {b : JointBits} {k : JointKind} {f1 f2 f3 f4 f5 f6 f7 f8 f9 f10 f11 f12 : Faults} {s t u v w : Bool}
+    → b ≡ jointBits (numbersAt cs l 0) → k ≡ kindFor (b .kind) (b .first) (b .second) (isSet (b .motor))
+    → f1 ≡ fieldFaults (faults (isSet (b .zero)) false false false false false) l true (neg bound) bound 3 6
+    → f2 ≡ fieldFaults f1 l (k .bases) (neg bound) bound 27 8
+    → f3 ≡ fieldFaults f2 l (k .axis) (neg bound) bound 59 3
+    → f4 ≡ fieldFaults f3 l (ltb 0 (k .compliances)) f0 bound 71 1
+    → f5 ≡ fieldFaults f4 l (ltb 1 (k .compliances)) f0 bound 75 1
+    → f6 ≡ fieldFaults f5 l (ltb 2 (k .compliances)) f0 bound 79 1
+    → f7 ≡ fieldFaults f6 l (ltb 3 (k .compliances)) f0 bound 83 1
+    → f8 ≡ fieldFaults f7 l (b .first) (neg bound) bound 87 2
+    → f9 ≡ fieldFaults f8 l (b .second) (neg bound) bound 95 2
+    → f10 ≡ fieldFaults f9 l (isSet (b .motor)) (neg bound) bound 103 2
+    → f11 ≡ fieldFaults f10 l (isSet (b .motor)) f0 largest 111 1
+    → f12 ≡ fieldFaults f11 l (isSet (b .motor)) (neg bound) bound 115 2
+    → s ≡ wideAt l 87 → t ≡ wideAt l 95 → u ≡ limitAt l 87 → v ≡ limitAt l 95 → w ≡ normsAt l (k .bases) (k .axis)
+    → faults (f12 .bits || not (k .fits)) false (f12 .floats) (k .angles && (s || t)) (u || v) w ≡ jointFaults cs (numbersAt cs l 0)
+unfolding jointBits
+joint-are l cs J eb ek e1 e2 e3 e4 e5 e6 e7 e8 e9 e10 e11 e12 es et eu ev ew =
+    rw (e12, e11, e10, e9, e8, e7, e6, e5, e4, e3, e2, e1, es, et, eu, ev, ew, ek, eb) (joint-is l cs J)

@@ -104,9 +104,9 @@ pub record Edition : Type 0 where
 abbrev pub edition : List Cell → List Cell → ℕ → ℕ → Edition
 edition h j most fastest = record { header = h; joint = j; most = most; fastest = fastest }
 
--- from 1 on: header, joint, most bodies and joints, fastest rate
+-- from 1 on, the second by document 02, point 4: header, joint, most bodies and joints, fastest rate
 abbrev pub editions : List Edition
-editions = edition (header 6 10 2) (joint 5 7 []) 32 1000 ∷ []
+editions = edition (header 6 10 2) (joint 5 7 []) 32 1000 ∷ edition (header 8 16 24) (joint 8 1 []) 200 4000 ∷ []
 
 -- one that is not listed is refused, whatever is read of it
 unfoldable pub editionOf : ℕ → Edition

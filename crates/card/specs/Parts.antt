@@ -1,7 +1,8 @@
 -- What the parts of the checks hand to each other, for their own contracts: the definitions that are read need none of it.
-use Prim.Native.Nat.{ℕ, zero, suc, _+_, _*_}
+use Prim.Native.Nat.{ℕ, zero, suc, _+_, _*_, _/_, _≤_}
 use mathlib.Core.Bool.{Bool, false, not, _||_, _&&_}
-use mathlib.Core.List.{List, []}
+use mathlib.Core.List.{List}
+use lib.ListN.{length}
 use lib.Dec.{eqb, ltb}
 use lib.Ieee.{Float, neg, lt}
 use Rattle.scalar.specs.Arith.{f32, f7}
@@ -10,35 +11,40 @@ use Rattle.vector.specs.Vector.{lengthSquaredOf}
 use Rattle.vector.specs.Rotation.{normSquaredOf}
 use Rattle.vector.specs.declared.Vec3.{Vec3}
 use Rattle.vector.specs.declared.Quat.{Quat}
+use Rattle.card.specs.declared.edition.EditionSizes.{EditionSizes}
 use Rattle.card.specs.declared.kinds.JointKind.{JointKind}
 use Rattle.card.specs.declared.records.HeaderBits.{HeaderBits}
 use Rattle.card.specs.declared.records.BodyBits.{BodyBits}
 use Rattle.card.specs.declared.records.JointBits.{JointBits}
 use Rattle.card.specs.declared.checks.Faults.{Faults}
-use Rattle.card.specs.Format.{bitsAt, Cell, numbersAt, recordsAt, anyCell, unusedSet, outOf}
-use Rattle.card.specs.Card.{at, flag, header, body, kindAt, joint, Edition, edition, Card, quat}
+use Rattle.card.specs.Format.{bitsAt, Cell, widthOf, numbersAt, recordsAt, anyCell, unusedSet, outOf}
+use Rattle.card.specs.Card.{at, flag, body, kindAt, Edition, editions, editionOf, Card, quat}
 use Rattle.card.specs.Checks.{any, misfit, dominant, tooWide, reversed, offUnit, offAxis, wrongPair}
 
--- the records of edition 1
-abbrev pub header1 : List Cell
-header1 = header 6 10 2
+-- the number of an edition of the table
+abbrev pub Listed : ℕ → Type 0
+Listed n = (1 ≤ n) × (n ≤ length editions)
 
-abbrev pub joint1 : List Cell
-joint1 = joint 5 7 []
+unfoldable pub sizesOf : ℕ → EditionSizes
+sizesOf n = let e = editionOf n in record { «header_bytes» = widthOf (e .header) / 8; most = e .most; fastest = e .fastest }
 
-abbrev pub row1 : Edition
-row1 = edition header1 joint1 32 1000
+-- a card with so many bodies and joints
+abbrev pub cardWith : Edition → List ℕ → ℕ → ℕ → Card
+cardWith e card bodies joints =
+    record {
+      header = numbersAt (e .header) card 0;
+      bodies = recordsAt body card (widthOf (e .header)) bodies;
+      joints = recordsAt (e .joint) card (widthOf (e .header) + widthOf body * bodies) joints;
+    }
 
--- a card of edition 1 with so many bodies and joints
-abbrev pub card1 : List ℕ → ℕ → ℕ → Card
-card1 card bodies joints =
-    record { header = numbersAt header1 card 0; bodies = recordsAt body card 96 bodies; joints = recordsAt joint1 card (96 + 752 * bodies) joints }
+unfoldable pub editionFault : ℕ → Bool
+editionFault n = eqb n 0 || ltb (length editions) n
 
-unfoldable pub countsFault : ℕ → ℕ → Bool
-countsFault bodies joints = eqb bodies 0 || ltb 32 bodies || ltb 32 joints
+unfoldable pub countsFault : ℕ → ℕ → ℕ → Bool
+countsFault most bodies joints = eqb bodies 0 || ltb most bodies || ltb most joints
 
-unfoldable pub rateFault : ℕ → Bool
-rateFault rate = ltb rate 16 || ltb 1000 rate
+unfoldable pub rateFault : ℕ → ℕ → Bool
+rateFault fastest rate = ltb rate 16 || ltb fastest rate
 
 -- ---- by the place of a byte in a record
 
@@ -109,14 +115,14 @@ fieldFaults f part used low high at count =
 abbrev pub usedOut : List Cell → List ℕ → Bool
 usedOut cs ns = anyCell (λ c n. outOf (c .range) n && c .used ns) cs ns
 
-unfoldable pub headerFaults : List ℕ → Faults
-headerFaults ns = faults (unusedSet header1 ns) false (usedOut header1 ns) false false false
+unfoldable pub headerFaults : List Cell → List ℕ → Faults
+headerFaults cs ns = faults (unusedSet cs ns) false (usedOut cs ns) false false false
 
 unfoldable pub bodyFaults : List ℕ → Faults
 bodyFaults ns = faults (unusedSet body ns) (dominant ns) (usedOut body ns) false false (offUnit (normSquaredOf (quat ns 9)))
 
-unfoldable pub jointFaults : List ℕ → Faults
-jointFaults ns = faults (unusedSet joint1 ns || misfit ns) false (usedOut joint1 ns) (tooWide ns) (reversed 28 ns || reversed 30 ns) (offAxis ns)
+unfoldable pub jointFaults : List Cell → List ℕ → Faults
+jointFaults cs ns = faults (unusedSet cs ns || misfit ns) false (usedOut cs ns) (tooWide ns) (reversed 28 ns || reversed 30 ns) (offAxis ns)
 
 unfoldable pub faultsOf : (List ℕ → Faults) → List (List ℕ) → Faults
 faultsOf f l = faults (any (λ r. f r .bits) l) (any (λ r. f r .dominance) l) (any (λ r. f r .floats) l) (any (λ r. f r .angles) l) (any (λ r. f r .limits) l) (any (λ r. f r .norms) l)

@@ -5,16 +5,18 @@ ghost use lib.ListN.{length};
 ghost use Rattle.vector.specs.Vector.{lengthSquaredOf};
 ghost use Rattle.vector.specs.Rotation.{normSquaredOf};
 ghost use Rattle.card.specs.Format.{numbersAt, recordsAt};
-ghost use Rattle.card.specs.Card.{body};
+ghost use Rattle.card.specs.Card.{body, editionOf};
 ghost use Rattle.card.specs.Answer.{numberOf};
 ghost use Rattle.card.specs.Checks.{any, offUnit, wrongPair, firstOf, recordChecks, checkOf};
-ghost use Rattle.card.specs.Parts.{header1, joint1, row1, card1, countsFault, rateFault, anyTo, setAt, outsideAt, orFaults, fieldFaults, headerFaults, bodyFaults, jointFaults, faultsOf, wideAt, limitAt, normsAt, pairOf};
+ghost use Rattle.card.specs.Parts.{Listed, sizesOf, cardWith, editionFault, countsFault, rateFault, anyTo, setAt, outsideAt, orFaults, fieldFaults, headerFaults, bodyFaults, jointFaults, faultsOf, wideAt, limitAt, normsAt, pairOf};
 use crate::answer::Answer;
 use crate::bits::bits8_at;
 use crate::bits::bits32_at;
 use crate::bits::float_at;
 use crate::bits::quat_at;
 use crate::bits::vec3_at;
+use crate::edition::LAST_EDITION;
+use crate::edition::sizes_of;
 use crate::kinds::kind_of;
 use crate::layout::ANCHOR1;
 use crate::layout::AXIS;
@@ -23,16 +25,14 @@ use crate::layout::BASIS2;
 use crate::layout::BODY_BYTES;
 use crate::layout::BOUND;
 use crate::layout::COMPLIANCES;
-use crate::layout::FASTEST;
 use crate::layout::GRAVITY;
-use crate::layout::HEADER_BYTES;
 use crate::layout::INV_INERTIA;
 use crate::layout::INV_MASS;
 use crate::layout::JOINT_BYTES;
+use crate::layout::LEAST_BYTES;
 use crate::layout::LIMIT1;
 use crate::layout::LIMIT2;
 use crate::layout::LINEAR_VELOCITY;
-use crate::layout::MOST;
 use crate::layout::MOTOR;
 use crate::layout::POSITION;
 use crate::layout::ROTATION;
@@ -133,11 +133,12 @@ impl Faults {
     }
 }
 
-fn header_faults(part: &[u8]) -> Faults
-    requires { ⌜ 12 ≤ length (now part) ⌝ }
-    ensures { λ r. ⌜ r ≡ headerFaults (numbersAt header1 (now (part .entry)) 0) ⌝ }
+fn header_faults(part: &[u8], edition: u32) -> Faults
+    requires { ⌜ Listed edition × (sizesOf edition .«header_bytes» ≤ length (now part)) ⌝ }
+    ensures { λ r. ⌜ r ≡ headerFaults (editionOf edition .header) (numbersAt (editionOf edition .header) (now (part .entry)) 0) ⌝ }
 {
-    let h = header_bits(part);
+    let h = header_bits(part, edition);
+    let end = sizes_of(edition).header_bytes;
     let f = Faults {
         bits: h.zero != 0,
         dominance: false,
@@ -146,8 +147,8 @@ fn header_faults(part: &[u8]) -> Faults
         limits: false,
         norms: false,
     };
-    f.field(part, true, -BOUND, BOUND, GRAVITY, 1)
-        .field(part, true, 0.0, BOUND, WARM_COEFFICIENT, 1)
+    f.field(part, true, -BOUND, BOUND, end - GRAVITY, 1)
+        .field(part, true, 0.0, BOUND, end - WARM_COEFFICIENT, 1)
 }
 
 // Whether a sum of squares is outside 1 ± 2^-10.
@@ -225,11 +226,11 @@ fn norms_fault(part: &[u8], bases: bool, axis: bool) -> bool
     bases & (first | second) | axis & axis_fault(vec3_at(part, AXIS))
 }
 
-fn joint_faults(part: &[u8]) -> Faults
-    requires { ⌜ 123 ≤ length (now part) ⌝ }
-    ensures { λ r. ⌜ r ≡ jointFaults (numbersAt joint1 (now (part .entry)) 0) ⌝ }
+fn joint_faults(part: &[u8], edition: u32) -> Faults
+    requires { ⌜ Listed edition × (123 ≤ length (now part)) ⌝ }
+    ensures { λ r. ⌜ r ≡ jointFaults (editionOf edition .joint) (numbersAt (editionOf edition .joint) (now (part .entry)) 0) ⌝ }
 {
-    let b = joint_bits(part);
+    let b = joint_bits(part, edition);
     let motor = b.motor != 0;
     let kind = kind_of(b.kind, b.first, b.second, motor);
     let many = kind.compliances;
@@ -289,9 +290,9 @@ fn bodies_faults(card: &[u8], at: usize, count: usize) -> Faults
 }
 
 // Of so many joints from `at` on.
-fn joints_faults(card: &[u8], at: usize, count: usize) -> Faults
-    requires { ⌜ at + 123 * count ≤ length (now card) ⌝ }
-    ensures { λ r. ⌜ r ≡ faultsOf jointFaults (recordsAt joint1 (now (card .entry)) (8 * at) count) ⌝ }
+fn joints_faults(card: &[u8], edition: u32, at: usize, count: usize) -> Faults
+    requires { ⌜ Listed edition × (at + 123 * count ≤ length (now card)) ⌝ }
+    ensures { λ r. ⌜ r ≡ faultsOf (jointFaults (editionOf edition .joint)) (recordsAt (editionOf edition .joint) (now (card .entry)) (8 * at) count) ⌝ }
 {
     let mut f = Faults {
         bits: false,
@@ -305,7 +306,7 @@ fn joints_faults(card: &[u8], at: usize, count: usize) -> Faults
     let mut left = count;
     while 0 < left {
         let end = from + JOINT_BYTES;
-        f = f.or(joint_faults(&card[from..end]));
+        f = f.or(joint_faults(&card[from..end], edition));
         from = end;
         left -= 1;
     }
@@ -334,15 +335,22 @@ fn pair_fault(card: &[u8], at: usize, bodies: usize, a: usize, b: usize) -> bool
 }
 
 // Whether one of so many joints from `from` on names its bodies wrongly.
-fn any_pair_fault(card: &[u8], at: usize, bodies: usize, first: usize, joints: usize) -> bool
-    requires { ⌜ (at + 94 * bodies ≤ length (now card)) × (first + 123 * joints ≤ length (now card)) ⌝ }
-    ensures { λ r. ⌜ r ≡ any (pairOf (recordsAt body (now (card .entry)) (8 * at) bodies)) (recordsAt joint1 (now (card .entry)) (8 * first) joints) ⌝ }
+fn any_pair_fault(
+    card: &[u8],
+    edition: u32,
+    at: usize,
+    bodies: usize,
+    first: usize,
+    joints: usize,
+) -> bool
+    requires { ⌜ Listed edition × (at + 94 * bodies ≤ length (now card)) × (first + 123 * joints ≤ length (now card)) ⌝ }
+    ensures { λ r. ⌜ r ≡ any (pairOf (recordsAt body (now (card .entry)) (8 * at) bodies)) (recordsAt (editionOf edition .joint) (now (card .entry)) (8 * first) joints) ⌝ }
 {
     let mut from = first;
     let mut left = joints;
     while 0 < left {
         let end = from + JOINT_BYTES;
-        let b = joint_bits(&card[from..end]);
+        let b = joint_bits(&card[from..end], edition);
         if pair_fault(card, at, bodies, b.body1, b.body2) {
             return true;
         }
@@ -352,29 +360,35 @@ fn any_pair_fault(card: &[u8], at: usize, bodies: usize, first: usize, joints: u
     false
 }
 
-// No bodies, or too many bodies or joints.
-fn counts_fault(bodies: usize, joints: usize) -> bool
-    ensures { λ r. ⌜ r ≡ countsFault bodies joints ⌝ }
+fn edition_fault(edition: u32) -> bool
+    ensures { λ r. ⌜ r ≡ editionFault edition ⌝ }
 {
-    (bodies == 0) | (MOST < bodies) | (MOST < joints)
+    (edition == 0) | (LAST_EDITION < edition)
 }
 
-fn rate_fault(rate: u32) -> bool
-    ensures { λ r. ⌜ r ≡ rateFault rate ⌝ }
+// No bodies, or too many bodies or joints.
+fn counts_fault(most: usize, bodies: usize, joints: usize) -> bool
+    ensures { λ r. ⌜ r ≡ countsFault most bodies joints ⌝ }
 {
-    (rate < SLOWEST) | (FASTEST < rate)
+    (bodies == 0) | (most < bodies) | (most < joints)
+}
+
+fn rate_fault(fastest: u32, rate: u32) -> bool
+    ensures { λ r. ⌜ r ≡ rateFault fastest rate ⌝ }
+{
+    (rate < SLOWEST) | (fastest < rate)
 }
 
 // The checks from 6 on, of a card with so many bodies and joints.
-fn check_records(card: &[u8], bodies: usize, joints: usize) -> Answer
-    requires { ⌜ length (now card) ≡ 12 + 94 * bodies + 123 * joints ⌝ }
-    ensures { λ r. ⌜ numberOf r ≡ firstOf (recordChecks row1 (card1 (now (card .entry)) bodies joints)) ⌝ }
+fn check_records(card: &[u8], edition: u32, bodies: usize, joints: usize) -> Answer
+    requires { ⌜ Listed edition × (length (now card) ≡ sizesOf edition .«header_bytes» + 94 * bodies + 123 * joints) ⌝ }
+    ensures { λ r. ⌜ numberOf r ≡ firstOf (recordChecks (editionOf edition) (cardWith (editionOf edition) (now (card .entry)) bodies joints)) ⌝ }
 {
-    let at = HEADER_BYTES;
-    let first = HEADER_BYTES + BODY_BYTES * bodies;
-    let h = header_faults(card);
+    let at = sizes_of(edition).header_bytes;
+    let first = at + BODY_BYTES * bodies;
+    let h = header_faults(card, edition);
     let b = bodies_faults(card, at, bodies);
-    let j = joints_faults(card, first, joints);
+    let j = joints_faults(card, edition, first, joints);
     if h.bits | b.bits | j.bits {
         return Answer::UnusedBits;
     }
@@ -393,7 +407,7 @@ fn check_records(card: &[u8], bodies: usize, joints: usize) -> Answer
     if b.norms | j.norms {
         return Answer::NotUnit;
     }
-    if any_pair_fault(card, at, bodies, first, joints) {
+    if any_pair_fault(card, edition, at, bodies, first, joints) {
         return Answer::WrongBodies;
     }
     Answer::Done
@@ -403,23 +417,25 @@ fn check_records(card: &[u8], bodies: usize, joints: usize) -> Answer
 pub fn check(card: &[u8]) -> Answer
     ensures { λ r. ⌜ numberOf r ≡ checkOf (now (card .entry)) ⌝ }
 {
-    if card.len() < HEADER_BYTES {
+    if card.len() < LEAST_BYTES {
         return Answer::ShortCard;
     }
-    if bits8_at(card, 0) != 1 {
+    let edition = bits8_at(card, 0);
+    if edition_fault(edition) {
         return Answer::WrongEdition;
     }
-    let h = header_bits(card);
+    let sizes = sizes_of(edition);
+    let h = header_bits(card, edition);
     let bodies = h.bodies;
     let joints = h.joints;
-    if counts_fault(bodies, joints) {
+    if counts_fault(sizes.most, bodies, joints) {
         return Answer::WrongCounts;
     }
-    if rate_fault(h.rate) {
+    if rate_fault(sizes.fastest, h.rate) {
         return Answer::WrongRate;
     }
-    if card.len() != HEADER_BYTES + BODY_BYTES * bodies + JOINT_BYTES * joints {
+    if card.len() != sizes.header_bytes + BODY_BYTES * bodies + JOINT_BYTES * joints {
         return Answer::WrongLength;
     }
-    check_records(card, bodies, joints)
+    check_records(card, edition, bodies, joints)
 }

@@ -1,19 +1,17 @@
 // The sizes of document 01, 'The card' and 'Turned back', in bytes, and where each field stands in its record.
-pub const HEADER_BYTES: usize = 12;
+// Of a card of any edition.
+pub const LEAST_BYTES: usize = 12;
 
 pub const BODY_BYTES: usize = 94;
 
 pub const JOINT_BYTES: usize = 123;
 
-pub const MOST: usize = 32;
-
 pub const SLOWEST: u32 = 16;
 
-pub const FASTEST: u32 = 1000;
+// From the header's end back, in every edition.
+pub const GRAVITY: usize = 8;
 
-pub const GRAVITY: usize = 4;
-
-pub const WARM_COEFFICIENT: usize = 8;
+pub const WARM_COEFFICIENT: usize = 4;
 
 pub const POSITION: usize = 2;
 

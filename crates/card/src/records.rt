@@ -1,10 +1,11 @@
-// The numbers that each record begins with.
+// The numbers that each record begins with, by edition where the editions differ.
 ghost use mathlib.Core.Path.{_≡_};
 ghost use Prim.Native.Nat.{_≤_};
 ghost use lib.ListN.{length};
 ghost use Rattle.card.specs.Format.{numbersAt};
-ghost use Rattle.card.specs.Card.{body};
-ghost use Rattle.card.specs.Parts.{header1, joint1, headerBits, bodyBits, jointBits};
+ghost use Rattle.card.specs.Card.{body, editionOf};
+ghost use Rattle.card.specs.Parts.{Listed, headerBits, bodyBits, jointBits};
+use crate::bits::bits8_at;
 use crate::bits::bits16_at;
 use crate::bits::bits24_at;
 use crate::bits::bits32_at;
@@ -39,9 +40,9 @@ pub struct JointBits {
     pub zero: u32,
 }
 
-pub fn header_bits(part: &[u8]) -> HeaderBits
+fn header_bits_1(part: &[u8]) -> HeaderBits
     requires { ⌜ 4 ≤ length (now part) ⌝ }
-    ensures { λ r. ⌜ r ≡ headerBits (numbersAt header1 (now (part .entry)) 0) ⌝ }
+    ensures { λ r. ⌜ r ≡ headerBits (numbersAt (editionOf 1 .header) (now (part .entry)) 0) ⌝ }
 {
     let b = bits32_at(part, 0);
     HeaderBits {
@@ -50,6 +51,28 @@ pub fn header_bits(part: &[u8]) -> HeaderBits
         rate: b / 4 % 0x400,
         zero: b / 1 % 4,
     }
+}
+
+fn header_bits_2(part: &[u8]) -> HeaderBits
+    requires { ⌜ 8 ≤ length (now part) ⌝ }
+    ensures { λ r. ⌜ r ≡ headerBits (numbersAt (editionOf 2 .header) (now (part .entry)) 0) ⌝ }
+{
+    HeaderBits {
+        bodies: bits8_at(part, 1) as usize,
+        joints: bits8_at(part, 2) as usize,
+        rate: bits16_at(part, 3),
+        zero: bits24_at(part, 5),
+    }
+}
+
+pub fn header_bits(part: &[u8], edition: u32) -> HeaderBits
+    requires { ⌜ Listed edition × (8 ≤ length (now part)) ⌝ }
+    ensures { λ r. ⌜ r ≡ headerBits (numbersAt (editionOf edition .header) (now (part .entry)) 0) ⌝ }
+{
+    if edition == 1 {
+        return header_bits_1(part);
+    }
+    header_bits_2(part)
 }
 
 pub fn body_bits(part: &[u8]) -> BodyBits
@@ -67,9 +90,9 @@ pub fn body_bits(part: &[u8]) -> BodyBits
     }
 }
 
-pub fn joint_bits(part: &[u8]) -> JointBits
+fn joint_bits_1(part: &[u8]) -> JointBits
     requires { ⌜ 3 ≤ length (now part) ⌝ }
-    ensures { λ r. ⌜ r ≡ jointBits (numbersAt joint1 (now (part .entry)) 0) ⌝ }
+    ensures { λ r. ⌜ r ≡ jointBits (numbersAt (editionOf 1 .joint) (now (part .entry)) 0) ⌝ }
 {
     let b = bits24_at(part, 0);
     JointBits {
@@ -81,4 +104,30 @@ pub fn joint_bits(part: &[u8]) -> JointBits
         motor: b / 0x80 % 4,
         zero: b / 1 % 0x80,
     }
+}
+
+fn joint_bits_2(part: &[u8]) -> JointBits
+    requires { ⌜ 3 ≤ length (now part) ⌝ }
+    ensures { λ r. ⌜ r ≡ jointBits (numbersAt (editionOf 2 .joint) (now (part .entry)) 0) ⌝ }
+{
+    let b = bits24_at(part, 0);
+    JointBits {
+        kind: b / 0x0020_0000 % 8,
+        body1: (b / 0x2000 % 0x100) as usize,
+        body2: (b / 0x20 % 0x100) as usize,
+        first: b / 0x10 % 2 == 1,
+        second: b / 8 % 2 == 1,
+        motor: b / 2 % 4,
+        zero: b / 1 % 2,
+    }
+}
+
+pub fn joint_bits(part: &[u8], edition: u32) -> JointBits
+    requires { ⌜ Listed edition × (3 ≤ length (now part)) ⌝ }
+    ensures { λ r. ⌜ r ≡ jointBits (numbersAt (editionOf edition .joint) (now (part .entry)) 0) ⌝ }
+{
+    if edition == 1 {
+        return joint_bits_1(part);
+    }
+    joint_bits_2(part)
 }

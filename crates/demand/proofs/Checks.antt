@@ -7,7 +7,7 @@ use lib.ListN.{length, take}
 use lib.Ieee.{Float}
 use Rattle.card.specs.Card.{editionAt, cardOf}
 use Rattle.card.specs.Checks.{Refusal, refuse, firstOf, cardChecks, checkOf}
-use Rattle.card.proofs.Accepted.{passed}
+use Rattle.card.proofs.Checking.{passed}
 use Rattle.loader.specs.Linkage.{linkageOf}
 use Rattle.state.specs.State.{startChecks, stateChecks, startOf}
 use Rattle.tick.specs.Tick.{turnedLinkage, stopped}

@@ -26,12 +26,12 @@ use Rattle.stages.proofs.Choice.{either}
 use Rattle.stages.proofs.Vec.{Held3}
 use Rattle.stages.proofs.Sound.{SettingOk, StepOk, All, all-append}
 use Rattle.card.specs.Format.{Cell, widthOf, numbersAt, recordsAt}
-use Rattle.card.specs.Card.{at, flag, body, editionAt, Card, cardOf}
+use Rattle.card.specs.Card.{at, flag, body, joint, editionAt, Card, cardOf}
 use Rattle.card.specs.Checks.{checkOf}
 use Rattle.card.specs.Accepted.{Real, Ranged, AcceptedCard}
-use Rattle.card.specs.Parts.{joint1}
 use Rattle.card.proofs.Cut.{records-length, record-at}
-use Rattle.card.proofs.Edition1.{only-edition, edition-is}
+use Rattle.card.proofs.Cells.{flat}
+use Rattle.card.proofs.Editions.{joint-rows, JointOf, joint-of, joint-numbers}
 use Rattle.card.proofs.Accepted.{accepted}
 use Rattle.loader.specs.Linkage.{Linkage, angularMotorIn, linearMotorIn, fixedIn, revoluteIn, prismaticIn, sphericalIn, distanceIn, kindIn, bodyIn, bodyOf, jointOf, linkageOf}
 use Rattle.loader.specs.declared.body.LinkBody.{LinkBody}
@@ -96,23 +96,28 @@ steps-of-ok (Distance j) h b₁ b₂ = (h, tt)
 soft : {x : Float} → Real f0 x → Soft x
 soft r = (r .held .0, r .above)
 
--- the cells are known, so each number computes to its bits
-joint-compliant : (l : List ℕ) (p : ℕ) → Ranged joint1 (numbersAt joint1 l p) → Compliant (jointOf (numbersAt joint1 l p) .joint)
-unfolding kindIn fixedIn revoluteIn prismaticIn sphericalIn distanceIn angularMotorIn linearMotorIn numbersAt
-joint-compliant l p r = go (at 0 ns)
-  where
-    ns : List ℕ
-    ns = numbersAt joint1 l p
+-- the floats' cells are known, so each float computes to its bits
+module _ (numbers zeros : ℕ) (l : List ℕ) (p kind body1 body2 first second motor rest : ℕ) where
+  abbrev ns : List ℕ
+  ns = kind ∷ body1 ∷ body2 ∷ first ∷ second ∷ motor ∷ rest ∷ numbersAt (flat joint-rows) l (p + 24)
 
-    fs : List Float
-    fs = map f32 (drop 7 ns)
+  abbrev fs : List Float
+  fs = map f32 (drop 7 ns)
 
-    go : (k : ℕ) → Compliant (getD (Fixed (fixedIn fs) ∷ Revolute (revoluteIn ns fs) ∷ Prismatic (prismaticIn ns fs) ∷ Spherical (sphericalIn ns fs) ∷ []) k (Distance (distanceIn fs)))
-    go zero = (soft (r 24), soft (r 25))
-    go (suc zero) = (soft (r 24), soft (r 25), soft (r 26), r 34 .held .0)
-    go (suc (suc zero)) = (soft (r 24), soft (r 25), r 34 .held .0)
-    go (suc (suc (suc zero))) = (soft (r 24), soft (r 25), soft (r 26))
-    go (suc (suc (suc (suc k)))) = soft (r 24)
+  by-kind : Ranged (joint numbers zeros []) ns → (k : ℕ)
+      → Compliant (getD (Fixed (fixedIn fs) ∷ Revolute (revoluteIn ns fs) ∷ Prismatic (prismaticIn ns fs) ∷ Spherical (sphericalIn ns fs) ∷ []) k (Distance (distanceIn fs)))
+  unfolding fixedIn revoluteIn prismaticIn sphericalIn distanceIn angularMotorIn linearMotorIn numbersAt
+  by-kind r zero = (soft (r 24), soft (r 25))
+  by-kind r (suc zero) = (soft (r 24), soft (r 25), soft (r 26), r 34 .held .0)
+  by-kind r (suc (suc zero)) = (soft (r 24), soft (r 25), r 34 .held .0)
+  by-kind r (suc (suc (suc zero))) = (soft (r 24), soft (r 25), soft (r 26))
+  by-kind r (suc (suc (suc (suc k)))) = soft (r 24)
+
+joint-compliant : (cs : List Cell) → JointOf cs → (l : List ℕ) (p : ℕ) → Ranged cs (numbersAt cs l p) → Compliant (jointOf (numbersAt cs l p) .joint)
+unfolding kindIn
+joint-compliant cs J l p =
+    joint-numbers l p cs J (λ ns. Ranged cs ns → Compliant (jointOf ns .joint))
+    (λ kind body1 body2 first second motor rest r. by-kind (J .numbers) (J .zeros) l p kind body1 body2 first second motor rest (rw (J .is) at r) kind)
 
 -- ---- the card
 
@@ -171,7 +176,7 @@ module _ (card : List ℕ) (z : checkOf card ≡ 0) (s : List Float) where
     pub steps-ok : All StepOk (tick.steps L s j)
     unfolding tick.steps cardOf
     steps-ok =
-        let e = edition-is card (only-edition (accepted card z .edition)) in
+        let compliant = joint-compliant (editionAt card .joint) (joint-of _ (accepted card z .edition)) card in
         steps-of-ok (tick.joint L j .joint)
-        (rw (joint-is j) (each-has (λ ns. Compliant (jointOf ns .joint)) (editionAt card .joint) card (rw e (joint-compliant card)) _ _ j h (has .joint j h .ranged)))
+        (rw (joint-is j) (each-has (λ ns. Compliant (jointOf ns .joint)) (editionAt card .joint) card compliant _ _ j h (has .joint j h .ranged)))
         _ _

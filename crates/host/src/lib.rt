@@ -2,8 +2,11 @@
 ghost use mathlib.Core.Path.{_≡_};
 ghost use Rattle.card.specs.Checks.{checkOf};
 ghost use Rattle.state.specs.State.{answered, startOf, sizesOf};
+ghost use Rattle.convert.specs.Convert.{conversion, convertOf};
 ghost use Rattle.tick.specs.Run.{tickOf, runOf};
 use card::checks::check;
+use convert::convert::to_edition_1;
+use convert::convert::to_edition_2;
 use state::sizes::sizes;
 use state::start::start;
 use tick::run::run;
@@ -59,5 +62,26 @@ pub extern "C" fn linkage_run(card: &[u8], state: &mut [f32], ticks: u32, done: 
     let ran = run(card, state, ticks);
     *done = ran.ticks;
     let answer = ran.answer;
+    answer.number() as u32
+}
+
+// The card in the other edition, and how many bytes it has there; none are written, and their number is 0, where it is refused.
+#[no_mangle]
+pub extern "C" fn linkage_to_edition_2(card: &[u8], out: &mut [u8], length: &mut u32) -> u32
+    ensures { λ r. ⌜ conversion r (now (length .exit)) (now (out .exit)) ≡ convertOf 1 2 (now (card .entry)) (now (out .entry)) ⌝ }
+{
+    let converted = to_edition_2(card, out);
+    *length = converted.length as u32;
+    let answer = converted.answer;
+    answer.number() as u32
+}
+
+#[no_mangle]
+pub extern "C" fn linkage_to_edition_1(card: &[u8], out: &mut [u8], length: &mut u32) -> u32
+    ensures { λ r. ⌜ conversion r (now (length .exit)) (now (out .exit)) ≡ convertOf 2 1 (now (card .entry)) (now (out .entry)) ⌝ }
+{
+    let converted = to_edition_1(card, out);
+    *length = converted.length as u32;
+    let answer = converted.answer;
     answer.number() as u32
 }

@@ -18,10 +18,11 @@ use Rattle.numbers.specs.Numbers.{numbers6, numberIn}
 use Rattle.numbers.proofs.Rows.{each-length}
 use Rattle.card.specs.declared.records.BodyBits.{BodyBits}
 use Rattle.card.specs.declared.records.JointBits.{JointBits}
-use Rattle.card.specs.Format.{numbersAt}
+use Rattle.card.specs.Format.{Cell, numbersAt}
 use Rattle.card.specs.Card.{body}
-use Rattle.card.specs.Parts.{joint1, bodyBits, jointBits, floatAt}
+use Rattle.card.specs.Parts.{bodyBits, jointBits, floatAt}
 use Rattle.card.proofs.Packed.{below}
+use Rattle.card.proofs.Editions.{JointOf, joint-numbers}
 use Rattle.loader.specs.Linkage.{tensorIn}
 use Rattle.loader.specs.Parts.{bodyFloatsOf, jointFloatsOf, floatsFrom, bodyWordsOf, jointWordsOf, turnedFloats}
 
@@ -89,21 +90,22 @@ module _ (bytes : List ℕ) where
       let seven : length (take (length (first ++ drop 3 l) - 3) (drop 3 (first ++ drop 3 l))) ≡ 7 = second-length 3 first l three ∙ rw n refl in
       halves 3 first l three second ∙ rw (f, seven, e, x) refl
 
-  pub joint-words : (l : List ℕ) {b : JointBits} → length l ≡ 6 → b ≡ jointBits (numbersAt joint1 bytes 0)
-      → sets l 0 (b .kind ∷ b .body1 ∷ b .body2 ∷ boolByte (b .first) ∷ boolByte (b .second) ∷ b .motor ∷ []) ≡ jointWordsOf (numbersAt joint1 bytes 0)
+module _ (cs : List Cell) (J : JointOf cs) (bytes : List ℕ) where
+  pub joint-words : (l : List ℕ) {b : JointBits} → length l ≡ 6 → b ≡ jointBits (numbersAt cs bytes 0)
+      → sets l 0 (b .kind ∷ b .body1 ∷ b .body2 ∷ boolByte (b .first) ∷ boolByte (b .second) ∷ b .motor ∷ []) ≡ jointWordsOf (numbersAt cs bytes 0)
   unfolding jointBits numbersAt
   joint-words l {b} n e =
+      let flags = 3 + J .numbers + J .numbers in
       filled l (b .kind ∷ b .body1 ∷ b .body2 ∷ boolByte (b .first) ∷ boolByte (b .second) ∷ b .motor ∷ []) n
-      ∙ rw (e, bit _ (below bytes 13 1), bit _ (below bytes 14 1)) refl
+      ∙ rw (e, J .is, bit _ (below bytes flags 1), bit _ (below bytes (flags + 1) 1)) refl
 
-  pub joint-floats : {n : ℕ} {f : List Float} → f ≡ floatsFrom bytes 3 n → n ≡ 30 → f ≡ jointFloatsOf (numbersAt joint1 bytes 0)
+  pub joint-floats : {n : ℕ} {f : List Float} → f ≡ floatsFrom bytes 3 n → n ≡ 30 → f ≡ jointFloatsOf (numbersAt cs bytes 0)
   unfolding floatsFrom each floatAt numbersAt
-  joint-floats e x = rw (e, x) refl
+  joint-floats e x = rw (e, x) (joint-numbers bytes 0 cs J (λ ns. floatsFrom bytes 3 30 ≡ jointFloatsOf ns) (λ kind body1 body2 first second motor zero. refl))
 
-  -- the numbers of its bodies have five bits
-  pub body-numbers : {b : JointBits} → b ≡ jointBits (numbersAt joint1 bytes 0) → (b .body1 < 32) × (b .body2 < 32)
+  pub body-numbers : {b : JointBits} → b ≡ jointBits (numbersAt cs bytes 0) → (b .body1 < 256) × (b .body2 < 256)
   unfolding jointBits numbersAt
-  body-numbers e = rw e (below bytes 3 5, below bytes 8 5)
+  body-numbers e = rw (e, J .is) (omega (arith, below bytes 3 (J .numbers), J .few), omega (arith, below bytes (3 + J .numbers) (J .numbers), J .few))
 
 pub body-words-sized : (l : List ℕ) (p : ℕ) → length (bodyWordsOf (numbersAt body l p)) ≡ 4
 unfolding numbersAt
@@ -113,10 +115,10 @@ pub body-floats-sized : (l : List ℕ) (p : ℕ) → length (bodyFloatsOf (numbe
 unfolding numbersAt
 body-floats-sized l p = refl
 
-pub joint-words-sized : (l : List ℕ) (p : ℕ) → length (jointWordsOf (numbersAt joint1 l p)) ≡ 6
-unfolding numbersAt
-joint-words-sized l p = refl
+module _ (cs : List Cell) (J : JointOf cs) (l : List ℕ) (p : ℕ) where
+  pub joint-words-sized : length (jointWordsOf (numbersAt cs l p)) ≡ 6
+  joint-words-sized = joint-numbers l p cs J (λ ns. length (jointWordsOf ns) ≡ 6) (λ kind body1 body2 first second motor zero. refl)
 
-pub joint-floats-sized : (l : List ℕ) (p : ℕ) → length (jointFloatsOf (numbersAt joint1 l p)) ≡ 30
-unfolding numbersAt
-joint-floats-sized l p = refl
+  pub joint-floats-sized : length (jointFloatsOf (numbersAt cs l p)) ≡ 30
+  unfolding numbersAt
+  joint-floats-sized = joint-numbers l p cs J (λ ns. length (jointFloatsOf ns) ≡ 30) (λ kind body1 body2 first second motor zero. refl)

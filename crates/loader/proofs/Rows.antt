@@ -13,6 +13,15 @@ use Rattle.card.specs.Format.{Cell, widthOf, numbersAt, recordsAt}
 use Rattle.card.proofs.Cut.{numbers-part, last-record}
 use Rattle.loader.specs.Parts.{part}
 
+module _ {A : Type 0} (cs : List Cell) (g : List ℕ → List A) (size : ℕ) where
+  -- the first i of n records are written
+  abbrev pub Written : List ℕ → ℕ → ℕ → ℕ → List A → Type 0
+  Written l p n i t = (length t ≡ size * n) × (take (size * i) t ≡ concat (map g (recordsAt cs l p i)))
+
+  pub none : (l : List ℕ) (p n : ℕ) (t : List A) → length t ≡ size * n → Written l p n 0 t
+  unfolding recordsAt concat
+  none l p n t e = (e, rw (mul-zero size) refl)
+
 module _ {A : Type 0} (cs : List Cell) (g : List ℕ → List A) (size : ℕ) (sized : (l : List ℕ) (p : ℕ) → length (g (numbersAt cs l p)) ≡ size) where
   abbrev row : List ℕ → ℕ → ℕ → List A
   row l p n = concat (map g (recordsAt cs l p n))
@@ -33,16 +42,8 @@ module _ {A : Type 0} (cs : List Cell) (g : List ℕ → List A) (size : ℕ) (s
 
   -- ---- the loop
 
-  -- the first i of n records are written
-  abbrev pub Written : List ℕ → ℕ → ℕ → ℕ → List A → Type 0
-  Written l p n i t = (length t ≡ size * n) × (take (size * i) t ≡ row l p i)
-
-  pub none : (l : List ℕ) (p n : ℕ) (t : List A) → length t ≡ size * n → Written l p n 0 t
-  unfolding recordsAt concat
-  none l p n t e = (e, rw (mul-zero size) refl)
-
   pub turn : (l : List ℕ) (p n i from m k : ℕ) (t : List A) {new : List A} → i < n → p + i * widthOf cs ≡ 8 * from → widthOf cs ≤ 8 * m → k ≡ size
-      → new ≡ g (numbersAt cs (take m (drop from l)) 0) → Written l p n i t → Written l p n (i + 1) (putMid (size * i) k t new)
+      → new ≡ g (numbersAt cs (take m (drop from l)) 0) → Written cs g size l p n i t → Written cs g size l p n (i + 1) (putMid (size * i) k t new)
   turn l p n i from m k t {new} h place whole ek en w =
       let here : new ≡ g (numbersAt cs l (p + i * widthOf cs)) = en ∙ ap g (numbers-part l from m cs whole ∙ ap (numbersAt cs l) (sym place)) in
       let step : size * (i + 1) ≡ size * i + size = rw (add-one, mul-suc size i) refl in
@@ -56,7 +57,7 @@ module _ {A : Type 0} (cs : List Cell) (g : List ℕ → List A) (size : ℕ) (s
         rw (← (append-assoc start new rest)) (take-at (start ++ new) rest (size * (i + 1)) written ∙ rw (w .1, here) (sym (row-more l p i))),
       )
 
-  pub done : (l : List ℕ) (p n i : ℕ) (t : List A) → i ≤ n → n ≤ i → Written l p n i t → t ≡ row l p n
+  pub done : (l : List ℕ) (p n i : ℕ) (t : List A) → i ≤ n → n ≤ i → Written cs g size l p n i t → t ≡ row l p n
   done l p n i t a b w =
       let e : i ≡ n = omega arith in
       let last : take (size * n) t ≡ row l p n = rw e at (w .1) in

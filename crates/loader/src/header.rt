@@ -3,7 +3,9 @@ ghost use mathlib.Core.Path.{_≡_};
 ghost use Rattle.card.specs.Card.{cardOf};
 ghost use Rattle.card.specs.Checks.{checkOf};
 ghost use Rattle.loader.specs.Parts.{headerOf};
+use card::bits::bits8_at;
 use card::bits::float_at;
+use card::edition::sizes_of;
 use card::layout::GRAVITY;
 use card::layout::WARM_COEFFICIENT;
 use card::records::header_bits;
@@ -20,12 +22,14 @@ pub fn header_of(card: &[u8]) -> Header
     requires { ⌜ checkOf (now card) ≡ 0 ⌝ }
     ensures { λ r. ⌜ r ≡ headerOf (cardOf (now (card .entry))) ⌝ }
 {
-    let b = header_bits(card);
+    let edition = bits8_at(card, 0);
+    let b = header_bits(card, edition);
+    let end = sizes_of(edition).header_bytes;
     Header {
         bodies: b.bodies,
         joints: b.joints,
         dt: 1.0 / b.rate as f32,
-        gravity: float_at(card, GRAVITY),
-        warm_coefficient: float_at(card, WARM_COEFFICIENT),
+        gravity: float_at(card, end - GRAVITY),
+        warm_coefficient: float_at(card, end - WARM_COEFFICIENT),
     }
 }

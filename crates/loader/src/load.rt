@@ -5,9 +5,9 @@ ghost use Prim.Native.Nat.{_+_, _*_, _≤_};
 ghost use lib.ListN.{length};
 ghost use Rattle.numbers.specs.Lists.{concat};
 ghost use Rattle.card.specs.Format.{numbersAt, recordsAt};
-ghost use Rattle.card.specs.Card.{body, cardOf};
+ghost use Rattle.card.specs.Card.{body, editionOf, cardOf};
 ghost use Rattle.card.specs.Checks.{checkOf};
-ghost use Rattle.card.specs.Parts.{joint1};
+ghost use Rattle.card.specs.Parts.{Listed};
 ghost use Rattle.loader.specs.Linkage.{linkageOf};
 ghost use Rattle.loader.specs.Parts.{bodyFloatsOf, jointFloatsOf, bodyWords, bodyFloats, jointWords, jointFloats, wordsLength, floatsLength, headerOf, floatsFrom, bodyWordsOf, jointWordsOf, linkageIn, Loaded};
 use crate::body::BODY_FLOATS;
@@ -15,11 +15,12 @@ use crate::body::BODY_WORDS;
 use crate::header::Header;
 use crate::joint::JOINT_FLOATS;
 use crate::joint::JOINT_WORDS;
+use card::bits::bits8_at;
 use card::bits::float_at;
+use card::edition::sizes_of;
 use card::layout::ANCHOR1;
 use card::layout::BODY_BYTES;
 use card::layout::CENTER_OF_MASS;
-use card::layout::HEADER_BYTES;
 use card::layout::INV_MASS;
 use card::layout::JOINT_BYTES;
 use card::records::body_bits;
@@ -51,12 +52,12 @@ fn load_body(part: &[u8], words: &mut [u32], floats: &mut [f32])
     load_floats(part, INV_MASS, &mut floats[3..]);
 }
 
-fn load_joint(part: &[u8], words: &mut [u32], floats: &mut [f32])
-    requires { ⌜ (123 ≤ length (now part)) × (length (now words) ≡ jointWords) × (length (now floats) ≡ jointFloats) ⌝ }
-    ensures words { λ _. ⌜ now (words .exit) ≡ jointWordsOf (numbersAt joint1 (now (part .entry)) 0) ⌝ }
-    ensures floats { λ _. ⌜ now (floats .exit) ≡ jointFloatsOf (numbersAt joint1 (now (part .entry)) 0) ⌝ }
+fn load_joint(part: &[u8], edition: u32, words: &mut [u32], floats: &mut [f32])
+    requires { ⌜ Listed edition × (123 ≤ length (now part)) × (length (now words) ≡ jointWords) × (length (now floats) ≡ jointFloats) ⌝ }
+    ensures words { λ _. ⌜ now (words .exit) ≡ jointWordsOf (numbersAt (editionOf edition .joint) (now (part .entry)) 0) ⌝ }
+    ensures floats { λ _. ⌜ now (floats .exit) ≡ jointFloatsOf (numbersAt (editionOf edition .joint) (now (part .entry)) 0) ⌝ }
 {
-    let b = joint_bits(part);
+    let b = joint_bits(part, edition);
     words[0] = b.kind;
     words[1] = b.body1 as u32;
     words[2] = b.body2 as u32;
@@ -87,10 +88,17 @@ fn load_bodies(card: &[u8], at: usize, bodies: usize, words: &mut [u32], floats:
 }
 
 // So many joints from byte `at` on.
-fn load_joints(card: &[u8], at: usize, joints: usize, words: &mut [u32], floats: &mut [f32])
-    requires { ⌜ (at + 123 * joints ≤ length (now card)) × (length (now words) ≡ jointWords * joints) × (length (now floats) ≡ jointFloats * joints) ⌝ }
-    ensures words { λ _. ⌜ now (words .exit) ≡ concat (map jointWordsOf (recordsAt joint1 (now (card .entry)) (8 * at) joints)) ⌝ }
-    ensures floats { λ _. ⌜ now (floats .exit) ≡ concat (map jointFloatsOf (recordsAt joint1 (now (card .entry)) (8 * at) joints)) ⌝ }
+fn load_joints(
+    card: &[u8],
+    edition: u32,
+    at: usize,
+    joints: usize,
+    words: &mut [u32],
+    floats: &mut [f32],
+)
+    requires { ⌜ Listed edition × (at + 123 * joints ≤ length (now card)) × (length (now words) ≡ jointWords * joints) × (length (now floats) ≡ jointFloats * joints) ⌝ }
+    ensures words { λ _. ⌜ now (words .exit) ≡ concat (map jointWordsOf (recordsAt (editionOf edition .joint) (now (card .entry)) (8 * at) joints)) ⌝ }
+    ensures floats { λ _. ⌜ now (floats .exit) ≡ concat (map jointFloatsOf (recordsAt (editionOf edition .joint) (now (card .entry)) (8 * at) joints)) ⌝ }
 {
     let mut j = 0;
     while j < joints {
@@ -99,6 +107,7 @@ fn load_joints(card: &[u8], at: usize, joints: usize, words: &mut [u32], floats:
         let f = JOINT_FLOATS * j;
         load_joint(
             &card[from..from + JOINT_BYTES],
+            edition,
             &mut words[w..w + JOINT_WORDS],
             &mut floats[f..f + JOINT_FLOATS],
         );
@@ -111,19 +120,16 @@ pub fn load(card: &[u8], h: Header, words: &mut [u32], floats: &mut [f32])
     ensures linkage { λ _. ⌜ linkageIn h (now (words .exit)) (now (floats .exit)) ≡ linkageOf (cardOf (now (card .entry))) ⌝ }
     ensures loaded { λ _. ⌜ Loaded h (now (words .exit)) (now (floats .exit)) ⌝ }
 {
+    let edition = bits8_at(card, 0);
+    let at = sizes_of(edition).header_bytes;
     let bodies = h.bodies;
     let w = BODY_WORDS * bodies;
     let f = BODY_FLOATS * bodies;
-    load_bodies(
-        card,
-        HEADER_BYTES,
-        bodies,
-        &mut words[..w],
-        &mut floats[..f],
-    );
+    load_bodies(card, at, bodies, &mut words[..w], &mut floats[..f]);
     load_joints(
         card,
-        HEADER_BYTES + BODY_BYTES * bodies,
+        edition,
+        at + BODY_BYTES * bodies,
         h.joints,
         &mut words[w..],
         &mut floats[f..],

@@ -12,6 +12,7 @@ use Rattle.examples.proofs.Examples as marked
 use Rattle.demand.proofs.Demand.{demand-three}
 use Rattle.demand.proofs.Sample.{sample-holds}
 use Rattle.promises.specs.Promises.{Promises}
+use Rattle.promises.proofs.Conversion.{conversions}
 
 pub promises : Promises
 promises =
@@ -25,6 +26,7 @@ promises =
       examples = marked.examples;
       line = line.examples;
       point-2 = right-angle;
+      point-4 = conversions;
       point-5 = dominance-gone;
       point-7 = starts-within;
       point-8 = limits-in-reach;

@@ -14,6 +14,7 @@ use Rattle.tick.specs.Dominance.{DominanceGone}
 use Rattle.examples.specs.Examples as marked
 use Rattle.demand.specs.Demand.{DemandThree}
 use Rattle.demand.specs.Sample.{Sample}
+use Rattle.promises.specs.Conversion.{Conversions}
 
 pub record Promises : Type 0 where
   pub root : (x : Float) → T (fits binary32 x) → T (positive x) → RootIsNearest x
@@ -27,6 +28,7 @@ pub record Promises : Type 0 where
   pub line : line.Examples
   -- document 02, by its points
   pub point-2 : RightAngle
+  pub point-4 : Conversions
   pub point-5 : DominanceGone
   pub point-7 : StartsWithin
   pub point-8 : LimitsInReach

@@ -1,32 +1,14 @@
--- What a call answers by a list of checks: checks behind others, and the state unless one applies.
-use Prim.Native.Nat.{ℕ, zero, suc}
-use native.Mathlib.Omega.{arith}
-use mathlib.Core.Path.{_≡_, refl, sym, ap, _∙_}
-use mathlib.Core.Bool.{true, false}
-use mathlib.Core.List.{List, [], _∷_, _++_}
+-- What a call answers by a list of checks: the state unless one applies.
+use Prim.Native.Nat.{ℕ}
+use mathlib.Core.Path.{_≡_, sym, ap, _∙_}
+use mathlib.Core.List.{List, _++_}
 use lib.Dec.{T, eqb}
 use lib.Ieee.{Float}
 use borrow.Author.Tests.{ne-eqb}
 use Rattle.scalar.specs.Arith.{if_then_else_}
-use Rattle.card.specs.Checks.{Refusal, refuse, firstOf}
-use Rattle.card.proofs.Accepted.{numbered}
+use Rattle.card.specs.Checks.{Refusal, firstOf}
+use Rattle.card.proofs.Checking.{numbered, passed-on}
 use Rattle.state.specs.State.{Answered, answered, unlessRefused}
-
--- ---- checks behind others
-
-pub first-append : (checks later : List Refusal) → T (numbered checks) → firstOf (checks ++ later) ≡ (if eqb (firstOf checks) 0 then firstOf later else firstOf checks)
-first-append [] later t = refl
-first-append (refuse zero b ∷ checks) later t = absurd t
-first-append (refuse (suc k) true ∷ checks) later t = rw (ne-eqb (suc k) 0 (λ z. omega arith))
-first-append (refuse (suc k) false ∷ checks) later t = first-append checks later t
-
-pub passed-on : (checks later : List Refusal) → T (numbered checks) → firstOf checks ≡ 0 → firstOf (checks ++ later) ≡ firstOf later
-passed-on checks later t e = first-append checks later t ∙ ap (λ (k : ℕ). if eqb k 0 then firstOf later else k) e
-
-pub refused-first : (checks later : List Refusal) → T (numbered checks) → (firstOf checks ≡ 0 → ⊥) → firstOf (checks ++ later) ≡ firstOf checks
-refused-first checks later t x = first-append checks later t ∙ ap (λ b. if b then firstOf later else firstOf checks) (ne-eqb (firstOf checks) 0 x)
-
--- ---- a call that answers by checks
 
 module _ (s new : List Float) where
   abbrev outcome : ℕ → Answered

@@ -1,26 +1,17 @@
 -- A card's counts are small, whatever its bytes, and its state holds its bodies.
-use Prim.Native.Nat.{ℕ, zero, suc, _-_, _*_, _≤_}
+use Prim.Native.Nat.{ℕ, _*_, _≤_}
 use native.Mathlib.Omega.{arith}
 use mathlib.Core.Path.{_≡_, refl}
 use mathlib.Core.Bool.{Bool, true, false}
-use mathlib.Core.List.{List, []}
-use lib.ListN.{length, getD}
+use mathlib.Core.List.{List}
+use lib.ListN.{length}
 use lib.Dec.{eqb}
 use borrow.Author.Tests.{eqb-true}
 use Rattle.scalar.specs.Arith.{if_then_else_}
-use Rattle.card.specs.Format.{bitsAt}
-use Rattle.card.specs.Card.{edition, editions, editionOf, cardOf}
+use Rattle.card.specs.Card.{cardOf}
 use Rattle.card.specs.Checks.{checkOf}
-use Rattle.card.proofs.Accepted.{accepted}
+use Rattle.card.proofs.Accepted.{accepted, at-most-200}
 use Rattle.state.specs.State.{bodyNumbers, Sizes, sized, sizesOf}
-
-row-few : (k : ℕ) → getD editions k (edition [] [] 0 0) .most ≤ 255
-row-few zero = omega arith
-row-few (suc k) = let none : 0 ≤ 255 = omega arith in none
-
-most-few : (n : ℕ) → editionOf n .most ≤ 255
-unfolding editionOf
-most-few n = row-few (n - 1)
 
 abbrev pub Few : Sizes → Type 0
 Few s = (s .bodies ≤ 255) × (s .joints ≤ 255) × (s .state ≤ 6375) × (bodyNumbers * s .bodies ≤ s .state)
@@ -32,8 +23,8 @@ either false n bodies joints f = (omega arith, omega arith, omega arith, omega a
 accepted-few : (card : List ℕ) → checkOf card ≡ 0 → (length (cardOf card .bodies) ≤ 255) × (length (cardOf card .joints) ≤ 255)
 accepted-few card z =
     let a = accepted card z .has in
-    let m = most-few (bitsAt card 0 8) in
-    (rw (a .bodies) (omega (arith, a .few-bodies, m)), rw (a .joints) (omega (arith, a .few-joints, m)))
+    let most = at-most-200 card z in
+    (rw (a .bodies) (omega (arith, most .0)), rw (a .joints) (omega (arith, most .1)))
 
 pub few : {s : Sizes} (card : List ℕ) → s ≡ sizesOf card → Few s
 unfolding sizesOf

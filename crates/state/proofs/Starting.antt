@@ -14,17 +14,21 @@ use Rattle.numbers.specs.Lists.{concat}
 use Rattle.numbers.proofs.Rows.{concat-last, pieces-length}
 use Rattle.numbers.proofs.Writes.{next-piece, drop-replicate}
 use Rattle.card.specs.Format.{bitsAt, numbersAt, recordsAt}
-use Rattle.card.specs.Card.{at, body, editionAt, cardOf}
+use Rattle.card.specs.Card.{body, editionOf, editionAt, Card, cardOf}
 use Rattle.card.specs.Checks.{Refusal, refuse, firstOf, cardChecks, checkOf}
-use Rattle.card.specs.Parts.{header1, joint1, card1, headerBits}
+use Rattle.card.specs.Parts.{Listed, cardWith, headerBits}
+use Rattle.card.specs.Parts as parts
+use Rattle.card.specs.declared.edition.EditionSizes.{EditionSizes}
 use Rattle.card.specs.declared.records.HeaderBits.{HeaderBits}
 use Rattle.card.proofs.Cut.{numbers-part, records-length, last-record}
-use Rattle.card.proofs.Edition1.{only-edition, edition-is, card-is}
-use Rattle.card.proofs.Accepted.{accepted}
+use Rattle.card.proofs.Checking.{refused-first}
+use Rattle.card.proofs.Editions.{header-width, card-is}
+use Rattle.card.proofs.Accepted.{at-most-200}
+use Rattle.loader.proofs.Accepted.{known, enough}
 use Rattle.loader.specs.Linkage.{startBody}
 use Rattle.state.specs.State.{bodyNumbers, jointNumbers, stateLength, numbersOf, totalsNumbers, startState, badNumbers, startChecks, answered, startOf, sized, sizesOf}
 use Rattle.state.specs.Parts.{lengthCheck, startNumbers, startIn}
-use Rattle.state.proofs.Answers.{passed-on, refused-first, unless-passed, unless-refused, unless-later}
+use Rattle.state.proofs.Answers.{unless-passed, unless-refused, unless-later}
 
 -- ---- the bodies of a row
 
@@ -67,29 +71,34 @@ zeros (j ∷ js) =
     let e : jointNumbers * suc (length js) ≡ jointNumbers + jointNumbers * length js = omega arith in
     rw (zeros js, e) (replicate-append-replicate jointNumbers (jointNumbers * length js) f0)
 
-module _ (card : List ℕ) (bodies joints : ℕ) (s : List Float) where
+module _ (n : ℕ) (card : List ℕ) (bodies joints : ℕ) (s : List Float) where
+  abbrev c : Card
+  c = cardWith (editionOf n) card bodies joints
+
+  many : (length (c .bodies) ≡ bodies) × (length (c .joints) ≡ joints)
+  many = (records-length body card _ bodies, records-length (editionOf n .joint) card _ joints)
+
   abbrev of-card : List Refusal
-  of-card = lengthCheck (length (recordsAt body card 96 bodies)) (length (recordsAt joint1 card (96 + 752 * bodies) joints)) s ∷ []
+  of-card = lengthCheck (length (c .bodies)) (length (c .joints)) s ∷ []
 
   lengths : of-card ≡ (lengthCheck bodies joints s ∷ [])
-  lengths = rw (records-length body card 96 bodies, records-length joint1 card (96 + 752 * bodies) joints)
+  lengths = rw (many .0, many .1)
 
-  pub length-refused : (length s ≡ stateLength bodies joints → ⊥) → answered 11 s ≡ startIn (card1 card bodies joints) s
+  pub length-refused : (length s ≡ stateLength bodies joints → ⊥) → answered 11 s ≡ startIn c s
   unfolding startIn
   length-refused x =
       let e : 11 ≡ firstOf (lengthCheck bodies joints s ∷ []) = rw (ne-eqb _ _ x) in
       unless-refused s _ of-card 11 (e ∙ ap firstOf (sym lengths)) (λ z. omega arith)
 
-  pub written : length s ≡ stateLength bodies joints → {s₁ s₂ : List Float} → s₁ ≡ replicate (length s) f0
-      → s₂ ≡ startNumbers (recordsAt body card 96 bodies) ++ drop (bodyNumbers * bodies) s₁ → answered 0 s₂ ≡ startIn (card1 card bodies joints) s
+  pub written : Listed n → length s ≡ stateLength bodies joints → {sizes : EditionSizes} → sizes ≡ parts.sizesOf n → {s₁ s₂ : List Float} → s₁ ≡ replicate (length s) f0
+      → s₂ ≡ startNumbers (recordsAt body card (8 * sizes .«header_bytes») bodies) ++ drop (bodyNumbers * bodies) s₁ → answered 0 s₂ ≡ startIn c s
   unfolding startIn startState startNumbers
-  written e {s₁} {s₂} e₁ e₂ =
-      let js = recordsAt joint1 card (96 + 752 * bodies) joints in
+  written known e ez {s₁} {s₂} e₁ e₂ =
       let rest : drop (bodyNumbers * bodies) s₁ ≡ replicate (jointNumbers * joints) f0 = rw (e₁, e) (drop-replicate (bodyNumbers * bodies) (jointNumbers * joints) f0) in
-      let totals : concat (map totalsNumbers (map (λ j. noTotals) js)) ≡ replicate (jointNumbers * joints) f0 = zeros js ∙ rw (records-length joint1 card (96 + 752 * bodies) joints) in
-      let new : s₂ ≡ startState (card1 card bodies joints) = e₂ ∙ rw (rest, totals) in
+      let totals : concat (map totalsNumbers (map (λ j. noTotals) (c .joints))) ≡ replicate (jointNumbers * joints) f0 = zeros (c .joints) ∙ rw (many .1) in
+      let new : s₂ ≡ startState c = e₂ ∙ rw (rest, totals, ez, header-width n known) in
       let none : firstOf (lengthCheck bodies joints s ∷ []) ≡ 0 = rw (eq-eqb _ _ e) in
-      ap (answered 0) new ∙ unless-passed s (startState (card1 card bodies joints)) of-card (ap firstOf lengths ∙ none)
+      ap (answered 0) new ∙ unless-passed s (startState c) of-card (ap firstOf lengths ∙ none)
 
 -- ---- any card
 
@@ -109,42 +118,31 @@ module _ (card : List ℕ) where
   unfolding sizesOf
   sizes-refused k e x = rw (← e, ne-eqb k 0 x)
 
-  module _ (z : checkOf card ≡ 0) where
-    one : bitsAt card 0 8 ≡ 1
-    one = only-edition (accepted card z .edition)
-
-    abbrev numbers : List ℕ
-    numbers = numbersAt header1 card 0
+  -- the card begins with edition n
+  module _ (z : checkOf card ≡ 0) {n : ℕ} (en : n ≡ bitsAt card 0 8) {h : HeaderBits} (eh : h ≡ headerBits (numbersAt (editionOf n .header) card 0)) where
+    card-of : cardOf card ≡ cardWith (editionOf n) card (h .bodies) (h .joints)
+    unfolding headerBits
+    card-of = rw (eh, en) (card-is card)
 
     -- the counts are small, and the bodies and joints are there
-    pub fitting-numbers : (at 1 numbers ≤ 32) × (at 2 numbers ≤ 32) × (96 + 752 * at 1 numbers + 984 * at 2 numbers ≤ 8 * length card)
-    fitting-numbers =
-        let a = accepted card z in
-        let c = card-is card one in
-        let e = edition-is card one in
-        (rw (e, c) at (a .has .few-bodies), rw (e, c) at (a .has .few-joints), rw (e, c) at (a .enough))
+    pub fitting : Listed n × (h .bodies ≤ 255) × (h .joints ≤ 255) × (parts.sizesOf n .«header_bytes» + 94 * h .bodies ≤ length card)
+    unfolding headerBits cardOf
+    fitting =
+        let few : (h .bodies ≤ 200) × (h .joints ≤ 200) = rw (eh, en) (at-most-200 card z) in
+        (known card z en, omega (arith, few .0), omega (arith, few .1), rw eh (omega (arith, enough card z en refl)))
 
-    module _ {h : HeaderBits} (eh : h ≡ headerBits numbers) where
-      pub fitting : (h .bodies ≤ 32) × (h .joints ≤ 32) × (96 + 752 * h .bodies + 984 * h .joints ≤ 8 * length card)
-      unfolding headerBits
-      fitting = rw eh fitting-numbers
+    pub started : (s : List Float) → startIn (cardWith (editionOf n) card (h .bodies) (h .joints)) s ≡ startOf card s
+    unfolding startOf startIn checkOf
+    started s =
+        ap (λ c. startIn c s) (sym card-of) ∙ sym (unless-later s (startState (cardOf card)) own (length-check s ∷ []) tt z)
 
-      card-of : cardOf card ≡ card1 card (h .bodies) (h .joints)
-      unfolding headerBits
-      card-of = card-is card one ∙ rw eh
+    bodies : length (cardOf card .bodies) ≡ h .bodies
+    bodies = ap (λ c. length (c .bodies)) card-of ∙ many n card (h .bodies) (h .joints) [] .0
 
-      pub started : (s : List Float) → startIn (card1 card (h .bodies) (h .joints)) s ≡ startOf card s
-      unfolding startOf startIn checkOf
-      started s =
-          ap (λ c. startIn c s) (sym card-of) ∙ sym (unless-later s (startState (cardOf card)) own (length-check s ∷ []) tt z)
+    joints : length (cardOf card .joints) ≡ h .joints
+    joints = ap (λ c. length (c .joints)) card-of ∙ many n card (h .bodies) (h .joints) [] .1
 
-      bodies : length (cardOf card .bodies) ≡ h .bodies
-      bodies = ap (λ c. length (c .bodies)) card-of ∙ records-length body card 96 (h .bodies)
-
-      joints : length (cardOf card .joints) ≡ h .joints
-      joints = ap (λ c. length (c .joints)) card-of ∙ records-length joint1 card (96 + 752 * h .bodies) (h .joints)
-
-      pub sizes-are : {k n : ℕ} → k ≡ checkOf card → n ≡ stateLength (h .bodies) (h .joints)
-          → record { number = k; bodies = h .bodies; joints = h .joints; state = n } ≡ sizesOf card
-      unfolding sizesOf
-      sizes-are {k} {n} ek en = rw (z, ek ∙ z, bodies, joints, en)
+    pub sizes-are : {k length : ℕ} → k ≡ checkOf card → length ≡ stateLength (h .bodies) (h .joints)
+        → record { number = k; bodies = h .bodies; joints = h .joints; state = length } ≡ sizesOf card
+    unfolding sizesOf
+    sizes-are ek el = rw (z, ek ∙ z, bodies, joints, el)

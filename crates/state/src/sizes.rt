@@ -4,6 +4,7 @@ ghost use Rattle.card.specs.Answer.{numberOf};
 ghost use Rattle.state.specs.State.{sizesOf};
 use crate::places::state_length;
 use card::answer::Answer;
+use card::bits::bits8_at;
 use card::checks::check;
 use card::records::header_bits;
 
@@ -21,7 +22,7 @@ pub fn sizes(card: &[u8]) -> CardSizes
 {
     let answer = check(card);
     if answer.number() == 0 {
-        let h = header_bits(card);
+        let h = header_bits(card, bits8_at(card, 0));
         return CardSizes {
             answer,
             bodies: h.bodies,

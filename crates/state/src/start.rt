@@ -4,21 +4,22 @@ ghost use mathlib.Core.List.{_++_};
 ghost use Prim.Native.Nat.{_+_, _*_, _≤_};
 ghost use lib.ListN.{length, drop};
 ghost use Rattle.card.specs.Format.{numbersAt, recordsAt};
-ghost use Rattle.card.specs.Card.{body};
+ghost use Rattle.card.specs.Card.{body, editionOf};
 ghost use Rattle.card.specs.Answer.{numberOf};
-ghost use Rattle.card.specs.Parts.{card1};
+ghost use Rattle.card.specs.Parts.{Listed, sizesOf, cardWith};
 ghost use Rattle.loader.specs.Linkage.{startBody};
 ghost use Rattle.state.specs.State.{bodyNumbers, answered, startOf};
 ghost use Rattle.state.specs.Parts.{startNumbers, startIn};
 use crate::places::state_length;
 use crate::places::write_body;
 use card::answer::Answer;
+use card::bits::bits8_at;
 use card::bits::quat_at;
 use card::bits::vec3_at;
 use card::checks::check;
+use card::edition::sizes_of;
 use card::layout::ANGULAR_VELOCITY;
 use card::layout::BODY_BYTES;
-use card::layout::HEADER_BYTES;
 use card::layout::LINEAR_VELOCITY;
 use card::layout::POSITION;
 use card::layout::ROTATION;
@@ -53,15 +54,21 @@ fn write_bodies(card: &[u8], at: usize, bodies: usize, state: &mut [f32])
     }
 }
 
-fn start_accepted(card: &[u8], bodies: usize, joints: usize, state: &mut [f32]) -> Answer
-    requires { ⌜ (bodies ≤ 32) × (joints ≤ 32) × (12 + 94 * bodies ≤ length (now card)) ⌝ }
-    ensures { λ r. ⌜ answered (numberOf r) (now (state .exit)) ≡ startIn (card1 (now (card .entry)) bodies joints) (now (state .entry)) ⌝ }
+fn start_accepted(
+    card: &[u8],
+    edition: u32,
+    bodies: usize,
+    joints: usize,
+    state: &mut [f32],
+) -> Answer
+    requires { ⌜ Listed edition × (bodies ≤ 255) × (joints ≤ 255) × (sizesOf edition .«header_bytes» + 94 * bodies ≤ length (now card)) ⌝ }
+    ensures { λ r. ⌜ answered (numberOf r) (now (state .exit)) ≡ startIn (cardWith (editionOf edition) (now (card .entry)) bodies joints) (now (state .entry)) ⌝ }
 {
     if state.len() != state_length(bodies, joints) {
         return Answer::StateLength;
     }
     clear(state);
-    write_bodies(card, HEADER_BYTES, bodies, state);
+    write_bodies(card, sizes_of(edition).header_bytes, bodies, state);
     Answer::Done
 }
 
@@ -71,8 +78,9 @@ pub fn start(card: &[u8], state: &mut [f32]) -> Answer
 {
     let answer = check(card);
     if answer.number() == 0 {
-        let h = header_bits(card);
-        return start_accepted(card, h.bodies, h.joints, state);
+        let edition = bits8_at(card, 0);
+        let h = header_bits(card, edition);
+        return start_accepted(card, edition, h.bodies, h.joints, state);
     }
     answer
 }

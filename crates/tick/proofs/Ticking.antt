@@ -13,13 +13,12 @@ use Rattle.numbers.specs.Lists.{after}
 use Rattle.numbers.proofs.Loops.{after-none, after-more, after-kept}
 use Rattle.card.specs.Card.{editionAt, cardOf}
 use Rattle.card.specs.Checks.{Refusal, refuse, firstOf, cardChecks, checkOf}
+use Rattle.card.proofs.Checking.{first-append}
 use Rattle.card.proofs.Accepted.{accepted}
-use Rattle.card.proofs.Edition1.{only-edition, edition-is}
 use Rattle.loader.specs.Linkage.{Linkage, bodyOf, jointOf, linkageOf}
 use Rattle.loader.specs.Parts.{headerOf}
 use Rattle.loader.specs.declared.header.Header.{Header}
 use Rattle.state.specs.State.{Answered, stateLength, badNumbers, startChecks, stateChecks, answered, unlessRefused}
-use Rattle.state.proofs.Answers.{first-append}
 use Rattle.tick.specs.Tick.{turnedLinkage, solved, newState, stopped}
 use Rattle.tick.specs.Run.{Ran, tickOf, tickNext, runOf}
 use Rattle.tick.specs.Work.{ran, nextTick, ticksNext, ticksOf, ranTo, allOrNothing}
@@ -281,14 +280,6 @@ module _ (card : List ℕ) (z : checkOf card ≡ 0) {h : Header} (e : h ≡ head
   pub joints-counted : h .joints ≡ length (cardOf card .joints)
   unfolding headerOf
   joints-counted = rw e (sym (accepted card z .has .joints))
-
-  pub few : (h .bodies ≤ 32) × (h .joints ≤ 32)
-  unfolding headerOf
-  few =
-      let one = edition-is card (only-edition (accepted card z .edition)) in
-      let m = accepted card z .has .few-bodies in
-      let n = accepted card z .has .few-joints in
-      rw e (rw one at m, rw one at n)
 
   pub length-is : stateLength (h .bodies) (h .joints) ≡ stateLength (length (cardOf card .bodies)) (length (cardOf card .joints))
   length-is = rw (bodies-counted, joints-counted)

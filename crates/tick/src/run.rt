@@ -1,13 +1,13 @@
 // Ticks: one, and several in a row. Each call is all or nothing.
 ghost use mathlib.Core.Path.{_≡_};
-ghost use Prim.Native.Nat.{_+_, _*_, _≤_};
+ghost use Prim.Native.Nat.{_*_, _≤_};
 ghost use lib.ListN.{length, take};
 ghost use Rattle.card.specs.Answer.{numberOf};
 ghost use Rattle.card.specs.Card.{cardOf};
 ghost use Rattle.card.specs.Checks.{checkOf};
 ghost use Rattle.loader.specs.Linkage.{linkageOf};
-ghost use Rattle.loader.specs.Parts.{bodyWords, bodyFloats, jointWords, jointFloats, headerOf, linkageIn, Loaded};
-ghost use Rattle.state.specs.State.{answered};
+ghost use Rattle.loader.specs.Parts.{bodyFloats, wordsLength, floatsLength, headerOf, linkageIn, Loaded};
+ghost use Rattle.state.specs.State.{bodyNumbers, stateLength, answered};
 ghost use Rattle.tick.specs.Run.{tickOf, runOf};
 ghost use Rattle.tick.specs.Work.{ran, ranTo, allOrNothing, ticksOf, StateOf, BodiesOf};
 use crate::steps::tick_accepted;
@@ -74,7 +74,7 @@ fn run_copy(
     copied: &mut [f32],
     new: &mut [f32],
 ) -> RunAnswer
-    requires { ⌜ (checkOf (now card) ≡ 0) × (h ≡ headerOf (cardOf (now card))) × StateOf h (now state) × (length (now words) ≡ bodyWords * h .bodies + jointWords * h .joints) × (length (now own) ≡ bodyFloats * h .bodies) × (length (now floats) ≡ bodyFloats * h .bodies + jointFloats * h .joints) × BodiesOf h (now bodies) × BodiesOf h (now «pre_solve») × StateOf h (now copied) × StateOf h (now new) ⌝ }
+    requires { ⌜ (checkOf (now card) ≡ 0) × (h ≡ headerOf (cardOf (now card))) × StateOf h (now state) × (length (now words) ≡ wordsLength h) × (length (now own) ≡ bodyFloats * h .bodies) × (length (now floats) ≡ floatsLength h) × BodiesOf h (now bodies) × BodiesOf h (now «pre_solve») × StateOf h (now copied) × StateOf h (now new) ⌝ }
     ensures { λ r. ⌜ ran (numberOf (r .answer)) (r .ticks) (now (state .exit)) ≡ allOrNothing (now (state .entry)) (ticksOf (linkageOf (cardOf (now (card .entry)))) (now (state .entry)) ticks) ⌝ }
 {
     load(card, h, words, floats);
@@ -94,9 +94,48 @@ fn run_copy(
     }
 }
 
+// On the first part of each slice, as long as the card's counts say.
+fn run_within(
+    card: &[u8],
+    h: Header,
+    state: &mut [f32],
+    ticks: u32,
+    words: &mut [u32],
+    own: &mut [f32],
+    floats: &mut [f32],
+    bodies: &mut [f32],
+    pre_solve: &mut [f32],
+    copied: &mut [f32],
+    new: &mut [f32],
+) -> RunAnswer
+    requires { ⌜ (checkOf (now card) ≡ 0) × (h ≡ headerOf (cardOf (now card))) × StateOf h (now state) × (h .bodies ≤ 200) × (h .joints ≤ 200) × (wordsLength h ≤ length (now words)) × (bodyFloats * h .bodies ≤ length (now own)) × (floatsLength h ≤ length (now floats)) × (bodyNumbers * h .bodies ≤ length (now bodies)) × (bodyNumbers * h .bodies ≤ length (now «pre_solve»)) × (stateLength (h .bodies) (h .joints) ≤ length (now copied)) × (stateLength (h .bodies) (h .joints) ≤ length (now new)) ⌝ }
+    ensures { λ r. ⌜ ran (numberOf (r .answer)) (r .ticks) (now (state .exit)) ≡ allOrNothing (now (state .entry)) (ticksOf (linkageOf (cardOf (now (card .entry)))) (now (state .entry)) ticks) ⌝ }
+{
+    let w = BODY_WORDS * h.bodies + JOINT_WORDS * h.joints;
+    let o = BODY_FLOATS * h.bodies;
+    let f = o + JOINT_FLOATS * h.joints;
+    let b = BODY_NUMBERS * h.bodies;
+    let n = state_length(h.bodies, h.joints);
+    run_copy(
+        card,
+        h,
+        state,
+        ticks,
+        &mut words[..w],
+        &mut own[..o],
+        &mut floats[..f],
+        &mut bodies[..b],
+        &mut pre_solve[..b],
+        &mut copied[..n],
+        &mut new[..n],
+    )
+}
+
 const FEW: usize = 8;
 
-const MOST: usize = 32;
+const MANY: usize = 32;
+
+const MOST: usize = 200;
 
 // A card of few bodies and joints clears a small scratch only.
 fn run_few(card: &[u8], h: Header, state: &mut [f32], ticks: u32) -> RunAnswer
@@ -110,28 +149,49 @@ fn run_few(card: &[u8], h: Header, state: &mut [f32], ticks: u32) -> RunAnswer
     let mut pre_solve = [0.0; BODY_NUMBERS * FEW];
     let mut copied = [0.0; BODY_NUMBERS * FEW + JOINT_NUMBERS * FEW];
     let mut new = [0.0; BODY_NUMBERS * FEW + JOINT_NUMBERS * FEW];
-    let w = BODY_WORDS * h.bodies + JOINT_WORDS * h.joints;
-    let o = BODY_FLOATS * h.bodies;
-    let f = o + JOINT_FLOATS * h.joints;
-    let b = BODY_NUMBERS * h.bodies;
-    let n = state_length(h.bodies, h.joints);
-    run_copy(
+    run_within(
         card,
         h,
         state,
         ticks,
-        &mut words[..w],
-        &mut own[..o],
-        &mut floats[..f],
-        &mut bodies[..b],
-        &mut pre_solve[..b],
-        &mut copied[..n],
-        &mut new[..n],
+        &mut words,
+        &mut own,
+        &mut floats,
+        &mut bodies,
+        &mut pre_solve,
+        &mut copied,
+        &mut new,
     )
 }
 
 fn run_many(card: &[u8], h: Header, state: &mut [f32], ticks: u32) -> RunAnswer
-    requires { ⌜ (checkOf (now card) ≡ 0) × (h ≡ headerOf (cardOf (now card))) × StateOf h (now state) ⌝ }
+    requires { ⌜ (checkOf (now card) ≡ 0) × (h ≡ headerOf (cardOf (now card))) × StateOf h (now state) × (h .bodies ≤ 32) × (h .joints ≤ 32) ⌝ }
+    ensures { λ r. ⌜ ran (numberOf (r .answer)) (r .ticks) (now (state .exit)) ≡ allOrNothing (now (state .entry)) (ticksOf (linkageOf (cardOf (now (card .entry)))) (now (state .entry)) ticks) ⌝ }
+{
+    let mut words = [0; BODY_WORDS * MANY + JOINT_WORDS * MANY];
+    let mut own = [0.0; BODY_FLOATS * MANY];
+    let mut floats = [0.0; BODY_FLOATS * MANY + JOINT_FLOATS * MANY];
+    let mut bodies = [0.0; BODY_NUMBERS * MANY];
+    let mut pre_solve = [0.0; BODY_NUMBERS * MANY];
+    let mut copied = [0.0; BODY_NUMBERS * MANY + JOINT_NUMBERS * MANY];
+    let mut new = [0.0; BODY_NUMBERS * MANY + JOINT_NUMBERS * MANY];
+    run_within(
+        card,
+        h,
+        state,
+        ticks,
+        &mut words,
+        &mut own,
+        &mut floats,
+        &mut bodies,
+        &mut pre_solve,
+        &mut copied,
+        &mut new,
+    )
+}
+
+fn run_most(card: &[u8], h: Header, state: &mut [f32], ticks: u32) -> RunAnswer
+    requires { ⌜ (checkOf (now card) ≡ 0) × (h ≡ headerOf (cardOf (now card))) × StateOf h (now state) × (h .bodies ≤ 200) × (h .joints ≤ 200) ⌝ }
     ensures { λ r. ⌜ ran (numberOf (r .answer)) (r .ticks) (now (state .exit)) ≡ allOrNothing (now (state .entry)) (ticksOf (linkageOf (cardOf (now (card .entry)))) (now (state .entry)) ticks) ⌝ }
 {
     let mut words = [0; BODY_WORDS * MOST + JOINT_WORDS * MOST];
@@ -141,37 +201,28 @@ fn run_many(card: &[u8], h: Header, state: &mut [f32], ticks: u32) -> RunAnswer
     let mut pre_solve = [0.0; BODY_NUMBERS * MOST];
     let mut copied = [0.0; BODY_NUMBERS * MOST + JOINT_NUMBERS * MOST];
     let mut new = [0.0; BODY_NUMBERS * MOST + JOINT_NUMBERS * MOST];
-    let w = BODY_WORDS * h.bodies + JOINT_WORDS * h.joints;
-    let o = BODY_FLOATS * h.bodies;
-    let f = o + JOINT_FLOATS * h.joints;
-    let b = BODY_NUMBERS * h.bodies;
-    let n = state_length(h.bodies, h.joints);
-    run_copy(
+    run_within(
         card,
         h,
         state,
         ticks,
-        &mut words[..w],
-        &mut own[..o],
-        &mut floats[..f],
-        &mut bodies[..b],
-        &mut pre_solve[..b],
-        &mut copied[..n],
-        &mut new[..n],
+        &mut words,
+        &mut own,
+        &mut floats,
+        &mut bodies,
+        &mut pre_solve,
+        &mut copied,
+        &mut new,
     )
 }
 
-// On a scratch of the card's size.
-fn run_accepted(card: &[u8], h: Header, state: &mut [f32], ticks: u32) -> RunAnswer
-    requires { ⌜ (checkOf (now card) ≡ 0) × (h ≡ headerOf (cardOf (now card))) × StateOf h (now state) ⌝ }
-    ensures { λ r. ⌜ ran (numberOf (r .answer)) (r .ticks) (now (state .exit)) ≡ allOrNothing (now (state .entry)) (ticksOf (linkageOf (cardOf (now (card .entry)))) (now (state .entry)) ticks) ⌝ }
+fn larger(a: usize, b: usize) -> usize
+    ensures { λ r. ⌜ (a ≤ r) × (b ≤ r) ⌝ }
 {
-    if h.bodies <= FEW {
-        if h.joints <= FEW {
-            return run_few(card, h, state, ticks);
-        }
+    if a < b {
+        return b;
     }
-    run_many(card, h, state, ticks)
+    a
 }
 
 fn refused(answer: Answer) -> RunAnswer
@@ -198,7 +249,14 @@ pub fn run(card: &[u8], state: &mut [f32], ticks: u32) -> RunAnswer
     if bad_numbers(h.bodies, state) {
         return refused(Answer::StateNumber);
     }
-    run_accepted(card, h, state, ticks)
+    let most = larger(h.bodies, h.joints);
+    if most <= FEW {
+        return run_few(card, h, state, ticks);
+    }
+    if most <= MANY {
+        return run_many(card, h, state, ticks);
+    }
+    run_most(card, h, state, ticks)
 }
 
 // One tick, or the refusal, which leaves the state as it was.

@@ -10,7 +10,8 @@
 //! It stops where a round leaves another state than the oracle's, or takes from the heap.
 
 use oracle::card::{
-    Body, Card, Joint, BALL, BODY_NUMBERS, HINGE, JOINT_NUMBERS, KINDS, SLIDE, TETHER,
+    Body, Card, Joint, BALL, BODY_NUMBERS, EDITION_1, EDITION_2, HINGE, JOINT_NUMBERS, KINDS,
+    SLIDE, TETHER,
 };
 use oracle::compare::{all_same, Table};
 use oracle::lean::LEAN;
@@ -89,9 +90,18 @@ struct Case {
 /// past 0.0625.
 fn linkage(name: &str, joints: usize, reach: f32, kind: impl Fn(usize) -> u32) -> Case {
     let bodies = joints.max(2);
+    let edition = match bodies <= EDITION_1.most {
+        true => EDITION_1,
+        false => EDITION_2,
+    };
     let mut card = Card {
-        edition: 1,
-        rate: 240,
+        edition: edition.number,
+        // These hold together at a higher rate.
+        rate: match name {
+            "slide 200" => 2000,
+            "ball 200" => 480,
+            _ => 240,
+        },
         zero: 0,
         gravity: -9.75,
         warm_coefficient: 0.5,
@@ -104,6 +114,10 @@ fn linkage(name: &str, joints: usize, reach: f32, kind: impl Fn(usize) -> u32) -
         if !body.anchored {
             let way = [-1.0, 1.0][i % 2];
             body.angular_velocity = [0.5 * way, 0.25, 0.25 * way];
+            // Else two thirds of these tethers would be slack, where a quarter of the other lengths' are at most.
+            if name == "tether 200" && i % 2 == 1 {
+                body.linear_velocity = [0.0, 0.0, 1.0];
+            }
         }
     }
     for i in 0..joints {
@@ -156,13 +170,21 @@ fn case(name: &str) -> Case {
 }
 
 const MIXED: &str = "mixed 32";
+const LARGE_MIXED: &str = "mixed 200";
+
+/// The lengths of chains over which the cost for a joint is to be flat.
+const LENGTHS: [usize; 5] = [4, 8, 16, 32, 200];
 
 fn cases() -> Vec<Case> {
-    let chains = KINDS
-        .iter()
-        .flat_map(|kind| [1, 2, 4, 8, 16, 32].map(|joints| format!("{kind} {joints}")));
+    let lengths = [1, 2].into_iter().chain(LENGTHS);
+    let chains = KINDS.iter().flat_map(|kind| {
+        let names = lengths
+            .clone()
+            .map(move |joints| format!("{kind} {joints}"));
+        names.collect::<Vec<_>>()
+    });
     chains
-        .chain([MIXED.to_string()])
+        .chain([MIXED, LARGE_MIXED].map(str::to_string))
         .map(|name| case(&name))
         .collect()
 }
@@ -192,16 +214,24 @@ fn gap(joint: &Joint, state: &[f32]) -> f32 {
     }
 }
 
-/// After a round the linkage still holds together, and nothing is faster than a fall of that time or two.
+/// After a round the linkage still holds together, and no joint's bodies are faster against each other than a fall of that time or two and the spins that they
+/// began with.
 fn assert_sensible(case: &Case) {
-    let fall = 9.75 * TICKS as f32 * case.card.dt();
-    for (joint, i) in case.card.joints.iter().zip(0..) {
-        let gap = gap(joint, &case.end);
-        assert!(gap < 0.1, "{}: joint {i} is {gap} apart", case.name);
-    }
-    for numbers in case.end.chunks(BODY_NUMBERS).take(case.card.bodies.len()) {
-        let [velocity, turning] = [7, 10].map(|at| length(numbers[at..at + 3].try_into().unwrap()));
-        assert!(velocity < 2.0 * fall && turning < 2.0 * fall);
+    let Case {
+        name, card, end, ..
+    } = case;
+    let most = 2.0 * 9.75 * TICKS as f32 * card.dt() + 1.25;
+    let number = |body: u32, place: usize| end[BODY_NUMBERS * body as usize + place];
+    for (joint, i) in card.joints.iter().zip(0..) {
+        let gap = gap(joint, end);
+        assert!(gap < 0.1, "{name}: joint {i} is {gap} apart");
+        for first in [7, 10] {
+            let against: [f32; 3] = std::array::from_fn(|i| {
+                number(joint.body1, first + i) - number(joint.body2, first + i)
+            });
+            let against = length(against);
+            assert!(against < most, "{name}: joint {i} moves by {against}");
+        }
     }
 }
 
@@ -358,25 +388,25 @@ fn spread(numbers: &[f64]) -> String {
     format!("{:.0} %", 100.0 * (most / least - 1.0))
 }
 
-/// What the Rattle takes for a joint in chains of 4 to 32, and what each joint more adds between these lengths. A line through the lengths 4 and 32 has a
+/// What the Rattle takes for a joint in chains of 4 to 200, and what each joint more adds between these lengths. A line through the lengths 4 and 200 has a
 /// part for the tick.
 fn flatness(cases: &[Case], figures: &[Figures]) {
     head(
-        "call, kind | 4 | 8 | 16 | 32 | spread | 4 to 8 | 8 to 16 | 16 to 32 | spread | for the tick",
+        "call, kind | 4 | 8 | 16 | 32 | 200 | spread | 4 to 8 | 8 to 16 | 16 to 32 | 32 to 200 | spread | for the tick",
     );
     let of = |name: String| figures[cases.iter().position(|case| case.name == name).unwrap()];
     for (call, name) in CALLS.iter().enumerate() {
         for kind in KINDS {
-            let each = [4, 8, 16, 32].map(|n| (n as f64, of(format!("{kind} {n}"))[call][1]));
+            let each = LENGTHS.map(|n| (n as f64, of(format!("{kind} {n}"))[call][1]));
             let slope = |i: usize, j: usize| (each[j].1 - each[i].1) / (each[j].0 - each[i].0);
             let joint = each.map(|(n, cost)| cost / n);
-            let more = [0, 1, 2].map(|i| slope(i, i + 1));
+            let more = [0, 1, 2, 3].map(|i| slope(i, i + 1));
             let mut cells = vec![format!("{name}, {kind}")];
             cells.extend(joint.map(whole));
             cells.push(spread(&joint));
             cells.extend(more.map(whole));
             cells.push(spread(&more));
-            cells.push(whole(each[0].1 - each[0].0 * slope(0, 3)));
+            cells.push(whole(each[0].1 - each[0].0 * slope(0, 4)));
             row(&cells);
         }
     }

@@ -2,7 +2,7 @@
 //!
 //! Lengths are in metres, masses in kilograms, angles in radians. The linkages lie in the x-y plane, with gravity along -y; body 0 is the frame.
 
-use oracle::card::{Body, Card, Joint, BALL, HINGE, SLIDE, TETHER};
+use oracle::card::{Body, Card, Joint, BALL, EDITION_2, HINGE, SLIDE, TETHER};
 use oracle::generate::held;
 use std::f32::consts::FRAC_PI_2;
 use std::f64::consts::{FRAC_1_SQRT_2, FRAC_PI_4};
@@ -145,6 +145,56 @@ fn slider_crank() -> Card {
     card(0.0, bodies, joints)
 }
 
+/// A card of edition 2 at its fastest rate. Its joints, which come in a row, are listed even ones first, so that neighbours are not solved one after the
+/// other.
+fn large_card(bodies: Vec<Body>, joints: Vec<Joint>) -> Card {
+    let even_then_odd = [0, 1].map(|first| joints.iter().skip(first).step_by(2));
+    Card {
+        edition: EDITION_2.number,
+        rate: EDITION_2.fastest,
+        ..card(
+            -9.81,
+            bodies,
+            even_then_odd.into_iter().flatten().cloned().collect(),
+        )
+    }
+}
+
+/// 199 bars of 0.25 on hinges, let go 0.2 radians from the vertical.
+fn chain_199() -> Card {
+    let (sine, cosine) = 0.2f64.sin_cos();
+    let joint_at = |i: usize| [0.25 * i as f64 * sine, -0.25 * i as f64 * cosine];
+    let mut bodies = vec![frame()];
+    let mut joints = Vec::new();
+    for i in 0..199 {
+        bodies.push(bar(joint_at(i), joint_at(i + 1)));
+        joints.push(at(HINGE, &bodies, i as u32, i as u32 + 1, joint_at(i)));
+    }
+    large_card(bodies, joints)
+}
+
+/// 199 planks of 0.25 between two abutments, which are the frame. Each hangs as steeply as the planks from it to the middle pull, half as steep as 45 degrees
+/// at the ends, so that all would stay; but the one in the middle is of 20 kg.
+fn bridge() -> Card {
+    let middle = 99;
+    let mut ends = vec![[0.0, 0.0]];
+    for i in 0..199 {
+        let [x, y]: Point = ends[i];
+        let (sine, cosine) = (0.5 * (i as f64 - middle as f64) / middle as f64)
+            .atan()
+            .sin_cos();
+        ends.push([x + 0.25 * cosine, y + 0.25 * sine]);
+    }
+    let mut bodies = vec![frame()];
+    bodies.extend((0..199).map(|i| bar(ends[i], ends[i + 1])));
+    let load = &mut bodies[1 + middle];
+    load.inv_mass /= 20.0;
+    load.inv_inertia = load.inv_inertia.map(|x| x / 20.0);
+    let joint = |i: usize| at(HINGE, &bodies, i as u32, (i as u32 + 1) % 200, ends[i]);
+    let joints = (0..200).map(joint).collect();
+    large_card(bodies, joints)
+}
+
 /// Five bars on ball joints, let go from the level.
 fn chain() -> Card {
     let joint_at = |i: usize| [i as f64 * 0.5, 0.0];
@@ -229,6 +279,8 @@ fn main() {
         ("stop", stop()),
         ("right_angle", held(HINGE, FRAC_PI_2)),
         ("rod", rod()),
+        ("chain_199", chain_199()),
+        ("bridge", bridge()),
     ];
     for (name, card) in cards {
         let path = Path::new(&folder).join(format!("{name}.card"));

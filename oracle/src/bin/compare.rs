@@ -1,9 +1,10 @@
-//! Compares the Rattle with the oracle: `compare [--seed S]... [--count N] [leaves] [joints] [cards] [runs] [states] [families] [lists] [every]`.
+//! Compares the Rattle with the oracle: `compare [--seed S]... [--count N] [WORD]...`, where a word is one of leaves, joints, cards, runs, states, families,
+//! lists, conversions and every.
 //!
 //! Without a word it compares all but `every`, which goes through all 2^32 inputs of root, sine, cosine and arc sine, and every slope of the
-//! arctangent. The count is of inputs to each leaf, of joints, of damaged cards, of runs, of states, of the families' cards and of lists of calls, for
-//! each seed. At a difference it writes the smallest input that it finds to target/differences; it fails at a difference, and where a class of inputs
-//! that it looks for never came up with any seed. It first says the sum of the archive that it is linked with.
+//! arctangent. The count is of inputs to each leaf, of joints, of damaged cards, of runs, of states, of the families' cards, of lists of calls and of
+//! conversions, for each seed. At a difference it writes the smallest input that it finds to target/differences; it fails at a difference, and where a
+//! class of inputs that it looks for never came up with any seed. It first says the sum of the archive that it is linked with.
 
 use oracle::compare::leaves::{any_joint, every, leaves, Leaf};
 use oracle::compare::{Difference, Hits};
@@ -13,7 +14,14 @@ use std::process::ExitCode;
 use std::time::Instant;
 
 const USUAL: &[&str] = &[
-    "leaves", "joints", "cards", "runs", "states", "families", "lists",
+    "leaves",
+    "joints",
+    "cards",
+    "runs",
+    "states",
+    "families",
+    "lists",
+    "conversions",
 ];
 
 struct Options {
@@ -79,6 +87,10 @@ fn compare_tables(what: &str, seed: u64, count: u64, hits: &mut Hits) -> Compare
         "lists" => (
             tables.lists(seed, count, hits)?,
             format!("steps of {count} lists"),
+        ),
+        "conversions" => (
+            tables.conversions(seed, count, hits)?,
+            "conversions".to_string(),
         ),
         _ => (tables.states(seed, count, hits)?, "states".to_string()),
     };

@@ -148,7 +148,7 @@ fn end_of(name: &str, card: &Card) {
     let refused = run(card, LONG, |state| widest = widest.max(gap(card, state)));
     match refused {
         Some(tick) => println!("{name} at {}: stopped in tick {tick}", card.rate),
-        None => println!("{name} at {}: gap {:.0} mm", card.rate, 1000.0 * widest),
+        None => println!("{name} at {}: gap {:.1} mm", card.rate, 1000.0 * widest),
     }
 }
 
@@ -165,6 +165,42 @@ fn hinge_chains() {
         joint.compliances[0] = 1e-4;
     }
     end_of("31 hinges of compliance 0.0001", &soft);
+}
+
+/// The samples of 200 bodies, as they are listed and joint after joint.
+fn large_samples(cards: &str) {
+    for name in ["chain_199", "bridge"] {
+        for rate in [500, 1000, 2000, 4000] {
+            let mut card = Card {
+                rate,
+                ..sample(cards, name)
+            };
+            end_of(&format!("{name} as listed"), &card);
+            card.joints.sort_by_key(|joint| joint.body1);
+            end_of(&format!("{name} from the first on"), &card);
+        }
+    }
+}
+
+/// When a body's coordinate first turns round, and when it does so again, in seconds, and where.
+fn turns(cards: &str, name: &str, body: u32, axis: usize) {
+    let card = sample(cards, name);
+    let mut way = Vec::new();
+    run(&card, LONG, |state| way.push(vector(state, body, 0)[axis]));
+    // Where it is farther out than half a second before and after.
+    let half = card.rate as usize / 2;
+    let turned = (half..way.len() - half).filter(|&i| {
+        let around = &way[i - half..=i + half];
+        let first = around.iter().position(|x| *x == way[i]) == Some(half);
+        first && (around.iter().all(|x| *x >= way[i]) || around.iter().all(|x| *x <= way[i]))
+    });
+    for i in turned.take(4) {
+        let at = (i + 1) as f32 / card.rate as f32;
+        println!(
+            "{name}: body {body} turns round at {:.3} after {at:.3} s",
+            way[i]
+        );
+    }
 }
 
 /// The fastest turn of a bar about its own length.
@@ -294,4 +330,7 @@ fn main() {
     stops(&cards);
     stretches();
     drawn_open();
+    large_samples(&cards);
+    turns(&cards, "chain_199", 199, 0);
+    turns(&cards, "bridge", 100, 1);
 }

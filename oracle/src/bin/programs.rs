@@ -1,8 +1,9 @@
-//! Compares the program's whole output with the oracle's: `programs [--seed S] [--count N] PROGRAM` runs PROGRAM on N random inputs, one card whose bodies and
-//! ticks are as many as there can be, and cards that reach each refusal that can come from a program. It fails at the first input with other lines, which it
-//! writes to target/differences, and where a class of inputs that it looks for never came up.
+//! Compares the program's whole output with the oracle's: `programs [--seed S] [--count N] PROGRAM` runs PROGRAM on N random inputs, on a card of as many bodies
+//! as edition 1 has for as many ticks as there can be, on one of as many bodies and joints as edition 2 has, whole and damaged, and on cards that reach each
+//! refusal that can come from a program. It fails at the first input with other lines, which it writes to target/differences, and where a class of inputs
+//! that it looks for never came up.
 
-use oracle::card::{self, Body, Card, Joint, BALL};
+use oracle::card::{self, Body, Card, Edition, Joint, BALL, EDITION_1, EDITION_2};
 use oracle::compare::Hits;
 use oracle::generate::{self, Random};
 use std::fs::{self, File};
@@ -10,7 +11,8 @@ use std::path::{Path, PathBuf};
 use std::process::{Command, ExitCode};
 use std::{env, io};
 
-const MOST_BODIES: usize = 32;
+/// The ticks of the card with as many bodies as edition 2 has.
+const LARGE_TICKS: u16 = 1000;
 
 struct Options {
     seed: u64,
@@ -39,11 +41,12 @@ fn input(ticks: u16, card: &[u8]) -> Vec<u8> {
     [&ticks.to_be_bytes(), card].concat()
 }
 
-/// Bodies that spin about balls on a frame, each at a speed of its own: nothing leaves its place, so no tick is refused.
-fn longest() -> Vec<u8> {
+/// As many bodies and joints as an edition has: bodies that spin about balls on a frame, each at a speed of its own. Nothing leaves its place, so no tick is
+/// refused.
+fn largest(edition: &Edition, rate: u32) -> Vec<u8> {
     let mut bodies = vec![Body::ANCHORED];
     let mut joints = Vec::new();
-    for i in 1..MOST_BODIES {
+    for i in 1..edition.most {
         let position = [i as f32, 0.5 * i as f32, -2.0];
         bodies.push(Body {
             position,
@@ -55,16 +58,33 @@ fn longest() -> Vec<u8> {
             ..Joint::plain(BALL, 0, i as u32)
         });
     }
+    joints.push(joints[0].clone());
     let card = Card {
-        edition: 1,
-        rate: 240,
+        edition: edition.number,
+        rate,
         zero: 0,
         gravity: -9.8125,
         warm_coefficient: 0.0,
         bodies,
         joints,
     };
-    input(u16::MAX, &card.encode())
+    card.encode()
+}
+
+/// Inputs that are no random ones.
+fn given(random: &mut Random) -> Vec<Vec<u8>> {
+    let large = largest(&EDITION_2, EDITION_2.fastest);
+    let mut inputs = vec![
+        input(u16::MAX, &largest(&EDITION_1, 240)),
+        input(LARGE_TICKS, &large),
+        input(1, &[&large[..], &[0; 70000]].concat()),
+    ];
+    for number in card::REFUSALS {
+        let mut damaged = large.clone();
+        generate::damage(random, &mut damaged, number);
+        inputs.push(input(1, &damaged));
+    }
+    inputs
 }
 
 /// Fewer than two bytes, a damaged card, or a card with few ticks.
@@ -106,17 +126,26 @@ fn count_classes(input: &[u8], lines: &str, hits: &mut Hits) {
     hits.look("ticks done", number == 0 && !lines.is_empty());
     hits.look("no ticks", number == 0 && lines.is_empty());
     hits.look("no count", input.len() < 2);
-    let last = format!("\n{} {} ", u16::MAX, MOST_BODIES - 1);
-    hits.look("most bodies and ticks", lines.contains(&last));
+    for (class, ticks, edition) in [
+        (
+            "most bodies of edition 1 and most ticks",
+            u16::MAX,
+            EDITION_1,
+        ),
+        ("most bodies of edition 2", LARGE_TICKS, EDITION_2),
+    ] {
+        let last = format!("\n{ticks} {} ", edition.most - 1);
+        hits.look(class, lines.contains(&last));
+    }
+    let large = input.get(2) == Some(&2) && input.len() > 43000;
+    hits.look("a large card is refused", large && number != 0);
 }
 
 /// Whether all inputs give the same lines.
 fn compare(options: &Options, folder: &Path, hits: &mut Hits) -> io::Result<bool> {
-    for case in 0..=options.count {
-        let input = match case {
-            0 => longest(),
-            _ => any_input(&mut Random::of_case(options.seed, case)),
-        };
+    let given = given(&mut Random::of_case(options.seed, 0));
+    let any = (1..=options.count).map(|case| any_input(&mut Random::of_case(options.seed, case)));
+    for (case, input) in given.into_iter().chain(any).enumerate() {
         let path = folder.join("program.input");
         fs::write(&path, &input)?;
         let mut expected = Vec::new();
@@ -148,9 +177,8 @@ fn main() -> ExitCode {
         }
     }
     println!(
-        "programs: seed {}, {} inputs equal",
-        options.seed,
-        options.count + 1
+        "programs: seed {}, all inputs equal, {} of them random",
+        options.seed, options.count
     );
     print!("programs: classes\n{}", hits.lines());
     for class in hits.missed() {

@@ -1,11 +1,13 @@
 //! The deepest stack of the Rattle's calls, as a table in Markdown: `stack LIBRARY`.
 //!
-//! Two figures for each call, both from the caller's stack pointer, return address and all. Measured: the call runs on a stack of its own that is filled with
-//! a pattern, and the lowest byte that it wrote is looked for; that covers the ways that were taken. From the code: the disassembly (objdump) gives how deep
-//! each function is at each of its calls; the deepest chain covers every way. The C library's functions count there as a return address alone.
+//! Three figures for each call, all from the caller's stack pointer, return address and all. Measured, on cards that edition 1 has room for and on larger ones:
+//! the call runs on a stack of its own that is filled with a pattern, and the lowest byte that it wrote is looked for; that covers the ways that were taken.
+//! From the code: the disassembly (objdump) gives how deep each function is at each of its calls; the deepest chain covers every way. The C library's
+//! functions count there as a return address alone.
 
+use oracle::card::{self, Card};
 use oracle::generate::{self, Random};
-use oracle::{host, table};
+use oracle::{host, large, table};
 use std::arch::asm;
 use std::collections::BTreeMap;
 use std::env;
@@ -13,7 +15,7 @@ use std::process::Command;
 
 // ----------------------------------------------------------------------------------------------------------------------------- measured
 
-/// The stack in words of 16 bytes, several times what a call takes; that the lowest quarter stays untouched is looked at.
+/// The stack in words of 16 bytes, over twice what a call takes; that the lowest quarter stays untouched is looked at.
 const WORDS: usize = 1 << 14;
 
 /// Calls a function of C on a stack filled with a pattern, and gives the bytes from the stack's end to the lowest one that changed.
@@ -47,36 +49,44 @@ unsafe fn depth(stack: &mut [u128], pattern: u8, function: usize, arguments: [us
     16 * (stack.len() - untouched) - changed.iter().take_while(|byte| **byte == 0).count()
 }
 
-const CALLS: [&str; 5] = [
+const CALLS: [&str; 7] = [
     "linkage_check",
     "linkage_sizes",
     "linkage_start",
     "linkage_tick",
     "linkage_run",
+    "linkage_to_edition_1",
+    "linkage_to_edition_2",
 ];
 
-/// The deepest of each call over random cards and states: linkages of up to 32 joints of all kinds with limits and motors, single joints in any pose,
-/// numbers anywhere in their ranges, and damaged cards.
-fn measured(cases: u64) -> [usize; CALLS.len()] {
+/// Linkages of up to 32 joints of all kinds with limits and motors, single joints in any pose, numbers anywhere in their ranges.
+fn small(random: &mut Random) -> Card {
+    match random.below(4) {
+        0 => generate::linkage(random),
+        1 => generate::any_card(random),
+        _ => generate::pair(random),
+    }
+}
+
+/// The deepest of each call over random cards, some of them damaged, and states.
+fn measured(cases: u64, draw: fn(&mut Random) -> Card) -> [usize; CALLS.len()] {
     let functions = [
         host::linkage_check as *const () as usize,
         host::linkage_sizes as *const () as usize,
         host::linkage_start as *const () as usize,
         host::linkage_tick as *const () as usize,
         host::linkage_run as *const () as usize,
+        host::linkage_to_edition_1 as *const () as usize,
+        host::linkage_to_edition_2 as *const () as usize,
     ];
     let mut stack = vec![0; WORDS];
     let mut deepest = [0; CALLS.len()];
     for case in 0..cases {
         let random = &mut Random::of_case(1, case);
-        let card = match case % 4 {
-            0 => generate::linkage(random),
-            1 => generate::any_card(random),
-            _ => generate::pair(random),
-        };
+        let card = draw(random);
         let mut bytes = card.encode();
         if random.one_in(8) {
-            let number = 1 + random.below(10) as u32;
+            let number = random.pick(&card::REFUSALS);
             generate::damage(random, &mut bytes, number);
         }
         let state = match random.one_in(2) {
@@ -87,14 +97,19 @@ fn measured(cases: u64) -> [usize; CALLS.len()] {
             // A byte that is written as it was in one pattern shows in the other.
             for pattern in [0x5a, 0xa5] {
                 let mut numbers = state.clone();
+                let mut out = vec![0u8; bytes.len() + 4];
                 let mut counts = [0u32; 3];
                 let [a, b, c] = counts.each_mut().map(|count| count as *mut u32 as usize);
                 let (from, to) = (bytes.as_ptr() as usize, numbers.as_mut_ptr() as usize);
+                let result = out.as_mut_ptr() as usize;
                 let arguments = match *name {
                     "linkage_sizes" => [from, bytes.len(), a, b, c, 0],
+                    "linkage_to_edition_1" | "linkage_to_edition_2" => {
+                        [from, bytes.len(), result, out.len(), a, 0]
+                    }
                     _ => [from, bytes.len(), to, numbers.len(), 20, a],
                 };
-                // SAFETY: card, state and counts live through the call. But for sizes, a call takes the first of card, state, ticks and count.
+                // SAFETY: card, state, result and counts live through the call. The others take the first of card, state, ticks and count.
                 let depth = unsafe { depth(&mut stack, pattern, function, arguments) };
                 *deepest = depth.max(*deepest);
             }
@@ -210,6 +225,20 @@ fn functions(text: &str) -> BTreeMap<String, Vec<Line>> {
     functions
 }
 
+/// A frame of many pages is taken page by page, in a loop up to where `r11` is: made one step of the whole.
+fn take_whole_frames(lines: &mut [Line]) {
+    for i in 5..lines.len() {
+        let [from, whole, page, _, end, back] = &mut lines[i - 5..=i] else {
+            unreachable!("six lines");
+        };
+        if (from.operands.as_str(), end.operands.as_str()) == ("%rsp,%r11", "%r11,%rsp") {
+            assert_eq!(back.target(), Some(page.address), "a loop over pages");
+            page.operands = whole.operands.replace("%r11", "%rsp");
+            back.instruction = "nop".to_string();
+        }
+    }
+}
+
 /// Follows the depth along the lines and jumps of a function; where two ways lead to a line, the deeper counts. A jump by a table may lead to any line that
 /// nothing else leads to. A line that is not come by even so counts as deep as the deepest.
 fn follow(lines: &[Line]) -> Function {
@@ -291,18 +320,24 @@ fn main() {
     let functions = functions(&String::from_utf8_lossy(&output.stdout));
     let functions = functions
         .into_iter()
-        .map(|(name, lines)| (name, follow(&lines)))
+        .map(|(name, mut lines)| {
+            take_whole_frames(&mut lines);
+            (name, follow(&lines))
+        })
         .collect();
-    println!("| call | bytes, measured | bytes, from the code | the deepest way, with what each function adds |");
-    println!("|---|---:|---:|---|");
-    for (name, measured) in CALLS.iter().zip(measured(4000)) {
+    println!("| call | bytes, measured on cards of up to 32 bodies and joints | on larger ones | bytes, from the code | the deepest way, with what each function adds |");
+    println!("|---|---:|---:|---:|---|");
+    let measured = measured(4000, small)
+        .into_iter()
+        .zip(measured(200, large::card));
+    for (name, (up_to_32, larger)) in CALLS.iter().zip(measured) {
         let (depth, way) = deepest(&functions, name, &[]);
         let way: Vec<String> = way
             .iter()
             .map(|(name, bytes)| format!("`{name}` {bytes}"))
             .collect();
         println!(
-            "| `{name}` | {measured} | {} | {} |",
+            "| `{name}` | {up_to_32} | {larger} | {} | {} |",
             RETURN_ADDRESS + depth,
             way.join(", ")
         );

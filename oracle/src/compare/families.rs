@@ -74,7 +74,8 @@ fn note_spins(card: &Card, done: u32, hits: &mut Hits) {
 mod tests {
     use super::super::{Table, ORACLE};
     use super::*;
-    use crate::card::{check, CAPACITY};
+    use crate::card::check;
+    use crate::families::CAPACITY;
 
     fn found(rattle: Table) -> String {
         let tables = Tables {

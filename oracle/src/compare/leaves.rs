@@ -5,7 +5,7 @@
 
 use super::{all_same, in_hex, number_bytes, shrink, Difference, Hits};
 use crate::above_one;
-use crate::card::{finite, BALL, HINGE, KINDS, SLIDE, TETHER};
+use crate::card::{finite, BALL, EDITION_2, HINGE, KINDS, SLIDE, TETHER};
 use crate::generate::{joint_case, motion_numbers, ordered, right_angle_range, JointCase, Random};
 use crate::math;
 use crate::parts;
@@ -625,7 +625,7 @@ fn motor() -> Leaf {
             x.push(random.mixed(20));
             x.push(random.mixed(20));
             x.push(random.between(0.0, 10.0));
-            x.push(1.0 / random.rate() as f32);
+            x.push(1.0 / random.rate(EDITION_2.fastest) as f32);
             if random.one_in(10) {
                 // An acceleration of the velocity error alone, whose correction is about 2^-23.
                 let bits = f32::EPSILON.to_bits() + random.below(3) as u32 - 1;
@@ -695,7 +695,14 @@ fn multiplier() -> Leaf {
                 true => random.wild(),
                 false => random.compliance(),
             };
-            vec![lagrange, c, w1, w2, compliance, 1.0 / random.rate() as f32]
+            vec![
+                lagrange,
+                c,
+                w1,
+                w2,
+                compliance,
+                1.0 / random.rate(EDITION_2.fastest) as f32,
+            ]
         },
         oracle: |x| {
             vec![parts::compute_lagrange_update(

@@ -2,9 +2,9 @@
 
 use super::tables::{answer, Answer, Call, Tables};
 use super::{number_bytes, Difference, Hits, Table};
-use crate::card::{self, Card, BODY_NUMBERS};
+use crate::card::{self, Card, BODY_NUMBERS, EDITION_1};
 use crate::families::FAMILIES;
-use crate::generate::{self, Random};
+use crate::generate::{self, Places, Random};
 use crate::table;
 
 /// What a list does next.
@@ -58,7 +58,7 @@ fn refused(random: &mut Random, card: &Card) -> Vec<u8> {
 /// A card of as many bodies and joints, so that a tick of it goes on from the state, or any other.
 fn other(random: &mut Random, card: &Card) -> Vec<u8> {
     let mut other = card.clone();
-    other.rate = random.rate();
+    other.rate = random.rate(EDITION_1.fastest);
     other.gravity = random.pick(&[0.0, 1.0, -9.81]);
     if random.one_in(2) {
         other.bodies.reverse();
@@ -135,6 +135,8 @@ impl Tables {
         let ticked = changed && !matches!(call, Call::Start);
         hits.look("list: a tick after a refusal", ticked && list.refused);
         hits.look("list: a tick of another card", ticked && bytes != list.own);
+        let large = Places::of(bytes).is_some_and(|places| places.bodies > EDITION_1.most);
+        hits.look("list: a tick of over 32 bodies", ticked && large);
         note_refusal(number, &list.states[0], hits);
         list.refused |= number != 0;
         Ok(())

@@ -1,11 +1,14 @@
 //! The Rattle against the oracle: every number and refusal, bit for bit. Any NaN equals any NaN.
 
+pub mod cards;
+pub mod conversions;
 pub mod families;
 pub mod leaves;
 pub mod lists;
 pub mod shrink;
 pub mod tables;
 
+use crate::convert::Converted;
 use crate::table::{Ran, Sizes};
 use std::collections::BTreeMap;
 use std::fmt::Write;
@@ -26,6 +29,8 @@ pub struct Table {
     pub start: fn(&[u8], &mut [f32]) -> u32,
     pub tick: fn(&[u8], &mut [f32]) -> u32,
     pub run: fn(&[u8], &mut [f32], u32) -> Ran,
+    pub to_edition_1: fn(&[u8], &mut [u8]) -> Converted,
+    pub to_edition_2: fn(&[u8], &mut [u8]) -> Converted,
 }
 
 pub const ORACLE: Table = Table {
@@ -34,6 +39,8 @@ pub const ORACLE: Table = Table {
     start: crate::table::start,
     tick: crate::table::tick,
     run: crate::table::run,
+    to_edition_1: crate::convert::to_edition_1,
+    to_edition_2: crate::convert::to_edition_2,
 };
 
 /// How often each class of cases came up. A class that was looked for and never came up is missed.

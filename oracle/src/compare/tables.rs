@@ -1,20 +1,21 @@
-//! Cards, runs and states: both tables' check, sizes, start, tick and run on the same bytes and numbers.
+//! Runs and states: both tables' sizes, start, tick and run on the same bytes and numbers.
 
 use super::{in_hex, number_bytes, shrink, Difference, Hits, Table};
 use crate::above_one::{self, AboveOne};
 use crate::card::{
-    self, Card, Joint, BALL, BODY_NUMBERS, CAPACITY, HINGE, JOINT_NUMBERS, KINDS, SLIDE, TETHER,
+    self, Card, Edition, Joint, BODY_NUMBERS, EDITIONS, EDITION_1, EDITION_2, JOINT_NUMBERS, KINDS,
 };
 use crate::generate::{self, Random};
+use crate::large;
 use crate::math;
 use crate::table::{self, Ran};
 use std::f32::consts::FRAC_PI_2;
 
-/// The longest that random bytes get: a little over the largest card.
-const LONGEST: usize = 7000;
-
 /// A number that no start state has, to see what is written.
-const MARK: f32 = -12345.678;
+pub(super) const MARK: f32 = -12345.678;
+
+/// How many linkages of over 32 bodies are run.
+const LARGE_RUNS: u64 = 40;
 
 #[derive(Clone, Copy, Debug)]
 pub(super) enum Call {
@@ -155,139 +156,6 @@ impl Tables {
         (call, card.encode(), state)
     }
 
-    // ------------------------------------------------------------------------------------------------------------------------------ cards
-
-    /// Check, sizes and start on one card.
-    fn card(&self, bytes: &[u8], hits: &mut Hits) -> Result<u32, Box<Difference>> {
-        let number = self.both(Call::Check, bytes, &[])?.number;
-        let sizes = self.both(Call::Sizes, bytes, &[])?;
-        for refusal in [0].into_iter().chain(card::REFUSALS) {
-            hits.look(format!("check answers {refusal}"), refusal == number);
-            hits.look(format!("sizes answers {refusal}"), refusal == sizes.number);
-        }
-        hits.look("sizes of the largest card", sizes.counts == [32, 32, 800]);
-        // The length that the counts give, whether the card is refused or not, and others.
-        let word = bytes.get(..4).map_or(0, |four| {
-            u32::from_be_bytes(four.try_into().expect("four bytes"))
-        });
-        let (bodies, joints) = ((word >> 18 & 63) as usize, (word >> 12 & 63) as usize);
-        let length = BODY_NUMBERS * bodies + JOINT_NUMBERS * joints;
-        let lengths = match number {
-            0 => vec![length, length - 1, length + 1, 0],
-            _ => vec![length],
-        };
-        for length in lengths {
-            let start = self.both(Call::Start, bytes, &vec![MARK; length])?;
-            hits.look("start answers 11", start.number == 11);
-            let written = !start.state.contains(&MARK) && start.number == 0;
-            hits.look("start writes a state", written);
-        }
-        Ok(number)
-    }
-
-    /// Limits about 7 in size and at 1,024, of each kind that may have them, in use and off; 19 comes before 8.
-    fn angle_limits(&self, hits: &mut Hits) -> Result<u64, Box<Difference>> {
-        let mut compared = 0;
-        for angle in [7.0, 7f32.next_up(), -7.0, -7f32.next_up(), 1024.0] {
-            for range in [[angle, angle], [0.0, angle], [angle, 0.0]] {
-                for (kind, second) in [
-                    (HINGE, false),
-                    (BALL, false),
-                    (BALL, true),
-                    (SLIDE, false),
-                    (TETHER, false),
-                ] {
-                    let wide = matches!(kind, HINGE | BALL) && angle.abs() > 7.0;
-                    let answers = if wide {
-                        19
-                    } else if range[0] > range[1] {
-                        8
-                    } else {
-                        0
-                    };
-                    for (used, answers) in [(true, answers), (false, 6)] {
-                        let bytes = generate::limited(kind, second, used, range);
-                        let number = self.card(&bytes, hits)?;
-                        let name = KINDS[kind as usize];
-                        hits.look(
-                            format!("limit {range:?} of a {name}, second {second}, used {used}"),
-                            number == answers,
-                        );
-                        compared += 1;
-                    }
-                }
-            }
-        }
-        Ok(compared)
-    }
-
-    /// Bits flipped, floats and lengths at borders, random bytes, damage of one and two kinds, and valid cards.
-    pub fn cards(&self, seed: u64, count: u64, hits: &mut Hits) -> Result<u64, Box<Difference>> {
-        let mut compared = 0;
-        for card in generate::each_kind() {
-            let bytes = card.encode();
-            for flipped in generate::flipped(&bytes) {
-                self.card(&flipped, hits)?;
-                compared += 1;
-            }
-            for edited in generate::floats_at_borders(&bytes, 2, 1) {
-                self.card(&edited, hits)?;
-                compared += 1;
-            }
-        }
-        for bytes in generate::at_borders() {
-            self.card(&bytes, hits)?;
-            compared += 1;
-        }
-        for (body, bit) in (0..CAPACITY).flat_map(|body| (0..8).map(move |bit| (body, bit))) {
-            for anchored in [false, true] {
-                let number = self.card(&generate::dominant(body, bit, anchored), hits)?;
-                let (body, expected) = if anchored {
-                    ("an anchored", 6)
-                } else {
-                    ("a moving", 17)
-                };
-                let class = format!("{expected} for bit {bit} of {body} body's dominance");
-                hits.look(class, number == expected);
-                compared += 1;
-            }
-        }
-        compared += self.angle_limits(hits)?;
-        for length in 0..=LONGEST {
-            let bytes = generate::random_bytes(&mut Random::of_case(seed, length as u64), length);
-            self.card(&bytes, hits)?;
-            compared += 1;
-        }
-        // Two refusals apply: the second alone first, and then with the first, which wins.
-        for (i, first) in card::REFUSALS.into_iter().enumerate() {
-            for second in card::REFUSALS.into_iter().skip(i + 1) {
-                for case in 0..30 {
-                    let random = &mut Random::of_case(seed + (100 * first + second) as u64, case);
-                    let mut bytes = generate::card(random).encode();
-                    generate::damage(random, &mut bytes, second);
-                    let alone = self.card(&bytes, hits)?;
-                    generate::damage(random, &mut bytes, first);
-                    let both = self.card(&bytes, hits)?;
-                    hits.look(
-                        format!("refusal {first} before {second}"),
-                        alone == second && both == first,
-                    );
-                    compared += 2;
-                }
-            }
-        }
-        for case in 0..count {
-            let random = &mut Random::of_case(seed, case);
-            let bytes = match random.one_in(4) {
-                true => generate::card(random).encode(),
-                false => generate::damaged_card(random),
-            };
-            self.card(&bytes, hits)?;
-            compared += 1;
-        }
-        Ok(compared)
-    }
-
     // ------------------------------------------------------------------------------------------------------------------------------- runs
 
     /// Ticks from the start state one by one, and the same ticks by one run.
@@ -385,7 +253,27 @@ impl Tables {
             hits.look("run of 300 ticks of 32 bodies", done >= 300 && bodies == 32);
             ticks += u64::from(done);
         }
-        Ok(ticks + self.held(hits)?)
+        Ok(ticks + self.held(hits)? + self.large(seed, hits)?)
+    }
+
+    /// Linkages of up to 200 bodies and joints, at rates of up to 4,000.
+    fn large(&self, seed: u64, hits: &mut Hits) -> Result<u64, Box<Difference>> {
+        let mut ticks = 0;
+        for case in 0..LARGE_RUNS {
+            let card = large::linkage(&mut Random::of_case(seed, case));
+            let done = self.run(&card, 100, hits)?.done;
+            let counts = [card.bodies.len(), card.joints.len()];
+            let fast = card.rate == EDITION_2.fastest;
+            hits.look("run of 100 ticks of over 32 bodies", done == 100);
+            for most in [[200, 199], [200, 200]] {
+                let [bodies, joints] = most;
+                let class =
+                    format!("run of 100 ticks of {bodies} bodies, {joints} joints, 4,000 a second");
+                hits.look(class, done == 100 && fast && counts == most);
+            }
+            ticks += u64::from(done);
+        }
+        Ok(ticks)
     }
 
     // ----------------------------------------------------------------------------------------------------------------------------- states
@@ -510,6 +398,12 @@ impl Tables {
     }
 }
 
+/// Whether an edition has room for a card.
+pub(super) fn fits(card: &Card, edition: &Edition) -> bool {
+    let most = card.bodies.len().max(card.joints.len());
+    most <= edition.most && card.rate <= edition.fastest
+}
+
 /// Joints on moving bodies whose rotation is of another length than 1.
 fn note_lengths(card: &Card, state: &[f32], hits: &mut Hits) {
     let stretched = |i: u32| {
@@ -596,6 +490,12 @@ fn note_state(card: &Card, state: &[f32], hits: &mut Hits) {
             );
         }
     }
+    for edition in EDITIONS {
+        let class = format!("tick of edition {}", edition.number);
+        hits.look(class, card.edition == edition.number);
+    }
+    let large = !fits(card, &EDITION_1);
+    hits.look("tick of a card that edition 1 has no room for", large);
     hits.look("tick with a joint", !card.joints.is_empty());
     hits.look(
         "tick with a locked body",
@@ -627,7 +527,7 @@ mod tests {
         tables.cards(1, 2000, &mut hits).unwrap();
         assert_eq!(hits.missed(), [""; 0], "{}", hits.lines());
         let mut hits = Hits::default();
-        tables.runs(1, 1000, &mut hits).unwrap();
+        tables.runs(1, 2000, &mut hits).unwrap();
         assert_eq!(hits.missed(), [""; 0], "{}", hits.lines());
         let mut hits = Hits::default();
         tables.states(1, 4000, &mut hits).unwrap();
@@ -714,7 +614,7 @@ mod tests {
         // Gives the counts of a card that is refused.
         found(Table {
             sizes: |card| match ((ORACLE.sizes)(card), card) {
-                (sizes @ Sizes { number: 6.., .. }, [_, byte, ..]) => Sizes {
+                (sizes @ Sizes { number: 6.., .. }, [1, byte, ..]) => Sizes {
                     bodies: u32::from(byte >> 2),
                     ..sizes
                 },

@@ -37,6 +37,20 @@ extern "C" {
         ticks: u32,
         done: *mut u32,
     ) -> u32;
+    pub fn linkage_to_edition_1(
+        card: *const u8,
+        card_bytes: usize,
+        out: *mut u8,
+        out_bytes: usize,
+        length: *mut u32,
+    ) -> u32;
+    pub fn linkage_to_edition_2(
+        card: *const u8,
+        card_bytes: usize,
+        out: *mut u8,
+        out_bytes: usize,
+        length: *mut u32,
+    ) -> u32;
 }
 
 /// The environment of the calls, from `enter` until this is dropped: round to nearest, flush-to-zero and denormals-are-zero off, exceptions masked.

@@ -20,7 +20,7 @@ fn main() {
         );
     }
     println!("state {BODY_NUMBERS} {JOINT_NUMBERS}, at most {MOST_STATE_NUMBERS}; card at most {MOST_CARD_BYTES}");
-    for refusal in (1..=14).filter_map(Refusal::from_number) {
+    for refusal in (1..=100).filter_map(Refusal::from_number) {
         println!("{} {refusal}", refusal.number());
     }
 }

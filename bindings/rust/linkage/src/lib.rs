@@ -33,6 +33,8 @@ fn answer(number: u32) -> Result<(), Refusal> {
     }
 }
 
+type Convert = unsafe extern "C" fn(*const u8, usize, *mut u8, usize, *mut u32) -> u32;
+
 /// A card that no check refuses.
 #[derive(Clone, Copy, Debug)]
 pub struct Card<'a> {
@@ -63,6 +65,40 @@ impl<'a> Card<'a> {
             )
         })?;
         Ok(card)
+    }
+
+    /// The card, of edition 2, as one of edition 1, written to the front of `out`. Refused by 2 where it is of edition 1, and by 16 where it is too large or
+    /// too fast for that or `out` is too short, and then nothing is written.
+    pub fn to_edition_1<'b>(&self, out: &'b mut [u8]) -> Result<Card<'b>, Refusal> {
+        self.converted(linkage_sys::linkage_to_edition_1, out)
+    }
+
+    /// The card, of edition 1, as one of edition 2, written to the front of `out`. Refused by 2 where it is of edition 2, and by 16 where `out` is too
+    /// short, and then nothing is written.
+    pub fn to_edition_2<'b>(&self, out: &'b mut [u8]) -> Result<Card<'b>, Refusal> {
+        self.converted(linkage_sys::linkage_to_edition_2, out)
+    }
+
+    fn converted<'b>(&self, call: Convert, out: &'b mut [u8]) -> Result<Card<'b>, Refusal> {
+        let mut length = 0;
+        let _environment = Environment::enter();
+        // SAFETY: pointers and lengths are those of two slices, one of them lent for writing, and the length is a number of its own.
+        answer(unsafe {
+            call(
+                self.bytes.as_ptr(),
+                self.bytes.len(),
+                out.as_mut_ptr(),
+                out.len(),
+                &mut length,
+            )
+        })?;
+        // It fits, or it would have been refused.
+        Ok(Card {
+            bytes: out.get(..length as usize).ok_or(Refusal::Conversion)?,
+            bodies: self.bodies,
+            joints: self.joints,
+            state_numbers: self.state_numbers,
+        })
     }
 
     pub fn bytes(&self) -> &'a [u8] {

@@ -20,6 +20,7 @@ pub enum Refusal {
     StateLength,
     StateNumber,
     Stopped,
+    Conversion,
     Dominance,
     AngleLimit,
     /// One that this version does not know.
@@ -44,6 +45,7 @@ impl Refusal {
             11 => Refusal::StateLength,
             12 => Refusal::StateNumber,
             13 => Refusal::Stopped,
+            16 => Refusal::Conversion,
             17 => Refusal::Dominance,
             19 => Refusal::AngleLimit,
             _ => Refusal::Unknown(number),
@@ -65,6 +67,7 @@ impl Refusal {
             Refusal::StateLength => 11,
             Refusal::StateNumber => 12,
             Refusal::Stopped => 13,
+            Refusal::Conversion => 16,
             Refusal::Dominance => 17,
             Refusal::AngleLimit => 19,
             Refusal::Unknown(number) => number,
@@ -74,7 +77,7 @@ impl Refusal {
     pub fn text(self) -> &'static str {
         match self {
             Refusal::ShortCard => "the card is shorter than its header",
-            Refusal::WrongEdition => "the card's edition is not known",
+            Refusal::WrongEdition => "the card's edition is not known, or not the one that is converted",
             Refusal::WrongCounts => "the card has no bodies, or too many bodies or joints",
             Refusal::WrongRate => "the card's rate is too low or too high",
             Refusal::WrongLength => "the card is not as long as its bodies and joints ask for",
@@ -86,6 +89,7 @@ impl Refusal {
             Refusal::StateLength => "the state is not as long as the card's bodies and joints ask for",
             Refusal::StateNumber => "a number of the state is not finite, or a body is too far out",
             Refusal::Stopped => "the tick would leave a number that is not finite, or a body too far out",
+            Refusal::Conversion => "the card is too large or too fast for the other edition, or the slice too short for its bytes",
             Refusal::Dominance => "a body of the card has a dominance, which is no longer known: an anchored body is to take its place",
             Refusal::AngleLimit => "an angle limit of a hinge or a ball is over 7 radians in size",
             Refusal::Unknown(_) => "an answer that this version does not know",

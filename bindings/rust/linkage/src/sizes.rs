@@ -17,16 +17,28 @@ pub struct Edition {
 }
 
 /// The editions that the calls know.
-pub const EDITIONS: [Edition; 1] = [Edition {
-    edition: 1,
-    header_bytes: 12,
-    body_bytes: 94,
-    joint_bytes: 123,
-    most_bodies: 32,
-    most_joints: 32,
-    slowest: 16,
-    fastest: 1000,
-}];
+pub const EDITIONS: [Edition; 2] = [
+    Edition {
+        edition: 1,
+        header_bytes: 12,
+        body_bytes: 94,
+        joint_bytes: 123,
+        most_bodies: 32,
+        most_joints: 32,
+        slowest: 16,
+        fastest: 1000,
+    },
+    Edition {
+        edition: 2,
+        header_bytes: 16,
+        body_bytes: 94,
+        joint_bytes: 123,
+        most_bodies: 200,
+        most_joints: 200,
+        slowest: 16,
+        fastest: 4000,
+    },
+];
 
 /// The numbers of a body in the state.
 pub const BODY_NUMBERS: usize = 13;
@@ -35,7 +47,7 @@ pub const BODY_NUMBERS: usize = 13;
 pub const JOINT_NUMBERS: usize = 12;
 
 /// The longest card of all editions.
-pub const MOST_CARD_BYTES: usize = 12 + 94 * 32 + 123 * 32;
+pub const MOST_CARD_BYTES: usize = 16 + 94 * 200 + 123 * 200;
 
 /// The longest state of all editions.
-pub const MOST_STATE_NUMBERS: usize = BODY_NUMBERS * 32 + JOINT_NUMBERS * 32;
+pub const MOST_STATE_NUMBERS: usize = BODY_NUMBERS * 200 + JOINT_NUMBERS * 200;

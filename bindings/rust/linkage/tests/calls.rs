@@ -8,9 +8,24 @@ use std::thread;
 
 /// Free bodies in a row along x, at a velocity along x, at 16 ticks a second.
 fn row(bodies: usize, velocity: f32) -> Vec<u8> {
-    let mut card = vec![0; 12 + 94 * bodies];
-    card[..4].copy_from_slice(&(1 << 24 | (bodies as u32) << 18 | 16 << 2).to_be_bytes());
-    for (n, body) in card[12..].chunks_mut(94).enumerate() {
+    let first = 1 << 24 | (bodies as u32) << 18 | 16 << 2;
+    row_of(
+        &[&first.to_be_bytes()[..], &[0; 8]].concat(),
+        bodies,
+        velocity,
+    )
+}
+
+/// The same by edition 2, at any rate.
+fn row_2(bodies: usize, velocity: f32, rate: u16) -> Vec<u8> {
+    let [high, low] = rate.to_be_bytes();
+    let header = [&[2, bodies as u8, 0, high, low][..], &[0; 11]].concat();
+    row_of(&header, bodies, velocity)
+}
+
+fn row_of(header: &[u8], bodies: usize, velocity: f32) -> Vec<u8> {
+    let mut card = [header, &vec![0; 94 * bodies]].concat();
+    for (n, body) in card[header.len()..].chunks_mut(94).enumerate() {
         for (at, number) in [(2, n as f32), (26, 1.0), (42, velocity), (66, 1.0)] {
             body[at..at + 4].copy_from_slice(&number.to_be_bytes());
         }
@@ -75,12 +90,48 @@ fn wrong_lengths_are_refused() {
 
 #[test]
 fn the_largest_card_is_as_large_as_said() {
-    let [edition] = EDITIONS;
-    let bytes = row(edition.most_bodies, 1.0);
+    for edition in EDITIONS {
+        let row = |bodies: usize| match edition.edition {
+            1 => row(bodies, 1.0),
+            _ => row_2(bodies, 1.0, 16),
+        };
+        let bytes = row(edition.most_bodies);
+        let card = Card::new(&bytes).unwrap();
+        assert_eq!(
+            bytes.len(),
+            edition.header_bytes + edition.body_bytes * edition.most_bodies
+        );
+        assert!(bytes.len() <= MOST_CARD_BYTES && card.state_numbers() <= MOST_STATE_NUMBERS);
+        let more = row(edition.most_bodies + 1);
+        assert_eq!(Card::new(&more).unwrap_err(), Refusal::WrongCounts);
+    }
+}
+
+#[test]
+fn cards_are_converted_over_and_back() {
+    let bytes = row(2, 64.0);
     let card = Card::new(&bytes).unwrap();
-    assert!(bytes.len() <= MOST_CARD_BYTES && card.state_numbers() <= MOST_STATE_NUMBERS);
-    let more = row(edition.most_bodies + 1, 1.0);
-    assert_eq!(Card::new(&more).unwrap_err(), Refusal::WrongCounts);
+    let (mut over, mut back) = ([7; 210], [7; 210]);
+    let second = card.to_edition_2(&mut over).unwrap();
+    assert_eq!(second.bytes(), row_2(2, 64.0, 16));
+    assert_eq!((second.bodies(), second.state_numbers()), (2, 26));
+    assert_eq!(second.to_edition_1(&mut back).unwrap().bytes(), bytes);
+    assert_eq!(over[204..], [7; 6]);
+    assert_eq!(back[200..], [7; 10]);
+
+    let mut short = [7; 203];
+    let refused = card.to_edition_2(&mut short).map(|_| ());
+    assert_eq!(refused, Err(Refusal::Conversion));
+    let refused = card.to_edition_1(&mut short).map(|_| ());
+    assert_eq!(refused, Err(Refusal::WrongEdition));
+    for large in [row_2(33, 1.0, 16), row_2(1, 1.0, 1001)] {
+        let refused = Card::new(&large)
+            .unwrap()
+            .to_edition_1(&mut short)
+            .map(|_| ());
+        assert_eq!(refused, Err(Refusal::Conversion));
+    }
+    assert_eq!(short, [7; 203]);
 }
 
 #[test]
@@ -93,11 +144,11 @@ fn refusals_have_their_numbers() {
 
 #[test]
 fn four_threads_share_a_card() {
-    let bytes = row(32, 1.0 / 3.0);
+    let bytes = row_2(200, 1.0 / 3.0, 16);
     let card = Card::new(&bytes).unwrap();
     let ran = || {
         let mut numbers = vec![0.0; card.state_numbers()];
-        State::start(card, &mut numbers).unwrap().run(3000).unwrap();
+        State::start(card, &mut numbers).unwrap().run(1000).unwrap();
         numbers
     };
     let alone = ran();

@@ -13,7 +13,7 @@ use Rattle.card.proofs.checks.bodies_faults.Tie as tie
 
 abbrev Inv-loop : tie.InvT-loop
 Inv-loop card at count f₀ from₀ left₀ f from left =
-    (from + 94 * left ≤ length card) × Still bodyFaults body 94 refl card f from left (faultsOf bodyFaults (recordsAt body card (8 * at) count))
+    (from + 94 * left ≤ length card) × Still bodyFaults body card f from left (faultsOf bodyFaults (recordsAt body card (8 * at) count))
 
 abbrev μ-loop : tie.MeasureT-loop
 μ-loop card at count f₀ from₀ left₀ f from left = left
@@ -25,12 +25,12 @@ loop-again : tie.Need-loop-again Inv-loop μ-loop
 loop-again c =
     let b = c .before in
     let l = b .before .before .before .loop in
-    (omega arith, turn bodyFaults body 94 refl _ (l .f) (l .from) (l .left) (l .from + 94 - l .from) (b .before .before .loop-test .taken) (omega arith) (b .body-faults .ensures) (c .or .ensures) (l .inv .1))
+    (omega arith, turn bodyFaults body _ 94 refl (l .f) (l .from) (l .left) (l .from + 94 - l .from) (b .before .before .loop-test .taken) (omega arith) (b .body-faults .ensures) (c .or .ensures) (l .inv .1))
 
 returns : tie.Need-returns Inv-loop μ-loop
 returns c =
     let c1 = c .before in
-    done bodyFaults body 94 refl _ _ (c1 .loop .from) (c1 .loop .left) (c .loop-test .left) (c1 .loop .inv .1)
+    done bodyFaults body _ _ (c1 .loop .from) (c1 .loop .left) (c .loop-test .left) (c1 .loop .inv .1)
 
 pub bodies-faults-spec : {M : Type 1} → statement M
 bodies-faults-spec =

@@ -1,5 +1,6 @@
 use borrow.Author.Needs.{needs}
 use native.Mathlib.Omega.{arith}
+use Rattle.card.proofs.Editions.{joint-of}
 use Rattle.card.proofs.RecordFaults.{joint-are}
 use Rattle.card.proofs.checks.joint_faults.Statement.{statement}
 use Rattle.card.proofs.checks.joint_faults.Tie as tie
@@ -20,7 +21,7 @@ returns c =
     let f2 = f3 .before in
     let f1 = f2 .before in
     let k = f1 .before .before in
-    joint-are _ (k .before .before .joint-bits .ensures) (k .kind-of .ensures)
+    joint-are _ _ (joint-of _ (k .before .before .before .before .pre .0)) (k .before .before .joint-bits .ensures) (k .kind-of .ensures)
     (f1 .field .ensures) (f2 .field2 .ensures) (f3 .field3 .ensures) (f4 .field4 .ensures) (f5 .field5 .ensures) (f6 .field6 .ensures)
     (f7 .field7 .ensures) (f8 .field8 .ensures) (f9 .field9 .ensures) (f10 .field10 .ensures) (f11 .field11 .ensures) (f12 .field12 .ensures)
     (c1 .before .before .before .before .wide-fault .ensures) (c1 .before .before .before .wide-fault2 .ensures) (c1 .before .limit-fault .ensures) (c1 .limit-fault2 .ensures) (c .norms-fault .ensures)
@@ -30,26 +31,26 @@ joint-faults-spec =
     tie.close
     (tie.spec
     (λ c κs. search needs) (λ c κs. search needs)
-    (λ c κs. omega (arith, c .before .before .before .before .before .pre))
-    (λ c κs. omega (arith, c .before .before .before .before .before .before .pre))
-    (λ c κs. omega (arith, c .before .before .before .before .before .before .before .pre))
-    (λ c κs. omega (arith, c .before .before .before .before .before .before .before .before .pre))
+    (λ c κs. omega (arith, c .before .before .before .before .before .pre .1))
+    (λ c κs. omega (arith, c .before .before .before .before .before .before .pre .1))
+    (λ c κs. omega (arith, c .before .before .before .before .before .before .before .pre .1))
+    (λ c κs. omega (arith, c .before .before .before .before .before .before .before .before .pre .1))
     (λ c. search needs)
-    (λ c κs. omega (arith, c .before .before .before .before .before .before .before .before .before .pre))
+    (λ c κs. omega (arith, c .before .before .before .before .before .before .before .before .before .pre .1))
     (λ c. search needs)
-    (λ c κs. omega (arith, c .before .before .before .before .before .before .before .before .before .before .pre))
+    (λ c κs. omega (arith, c .before .before .before .before .before .before .before .before .before .before .pre .1))
     (λ c. search needs)
-    (λ c κs. omega (arith, c .before .before .before .before .before .before .before .before .before .before .before .pre))
-    (λ c κs. omega (arith, c .before .before .before .before .before .before .before .before .before .before .before .before .pre))
-    (λ c κs. omega (arith, c .before .before .before .before .before .before .before .before .before .before .before .before .before .pre))
-    (λ c κs. omega (arith, c .before .before .before .before .before .before .before .before .before .before .before .before .before .before .pre))
+    (λ c κs. omega (arith, c .before .before .before .before .before .before .before .before .before .before .before .pre .1))
+    (λ c κs. omega (arith, c .before .before .before .before .before .before .before .before .before .before .before .before .pre .1))
+    (λ c κs. omega (arith, c .before .before .before .before .before .before .before .before .before .before .before .before .before .pre .1))
+    (λ c κs. omega (arith, c .before .before .before .before .before .before .before .before .before .before .before .before .before .before .pre .1))
     (λ c. search needs)
-    (λ c κs. omega (arith, c .before .before .before .before .before .before .before .before .before .before .before .before .before .before .before .pre))
+    (λ c κs. omega (arith, c .before .before .before .before .before .before .before .before .before .before .before .before .before .before .before .pre .1))
     (λ c. search needs)
-    (λ c κs. omega (arith, c .before .before .before .before .before .before .before .before .before .before .before .before .before .before .before .before .pre))
-    (λ c κs. omega (arith, c .before .before .before .before .before .before .before .before .before .before .before .before .before .before .before .before .before .before .before .pre))
-    (λ c κs. omega (arith, c .before .before .before .before .before .before .before .before .before .before .before .before .before .before .before .before .before .before .before .before .pre))
-    (λ c κs. omega (arith, c .before .before .before .before .before .before .before .before .before .before .before .before .before .before .before .before .before .before .before .before .before .before .pre))
-    (λ c κs. omega (arith, c .before .before .before .before .before .before .before .before .before .before .before .before .before .before .before .before .before .before .before .before .before .before .before .pre))
-    (λ c κs. omega (arith, c .before .before .before .before .before .before .before .before .before .before .before .before .before .before .before .before .before .before .before .before .before .before .before .before .pre))
+    (λ c κs. omega (arith, c .before .before .before .before .before .before .before .before .before .before .before .before .before .before .before .before .pre .1))
+    (λ c κs. omega (arith, c .before .before .before .before .before .before .before .before .before .before .before .before .before .before .before .before .before .before .before .pre .1))
+    (λ c κs. omega (arith, c .before .before .before .before .before .before .before .before .before .before .before .before .before .before .before .before .before .before .before .before .pre .1))
+    (λ c κs. omega (arith, c .before .before .before .before .before .before .before .before .before .before .before .before .before .before .before .before .before .before .before .before .before .before .pre .1))
+    (λ c κs. omega (arith, c .before .before .before .before .before .before .before .before .before .before .before .before .before .before .before .before .before .before .before .before .before .before .before .pre .1))
+    (λ c κs. omega (arith, c .before .before .before .before .before .before .before .before .before .before .before .before .before .before .before .before .before .before .before .before .before .before .before .before .pre .1))
     returns)

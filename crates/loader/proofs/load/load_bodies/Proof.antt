@@ -12,7 +12,7 @@ use Rattle.loader.proofs.load.load_bodies.Statement.{statement}
 use Rattle.loader.proofs.load.load_bodies.Tie as tie
 
 abbrev Inv-loop : tie.InvT-loop
-Inv-loop card at bodies words₀ floats₀ i₀ words floats i = (i ≤ bodies) × Written body bodyWordsOf 4 body-words-sized card (8 * at) bodies i words × Written body bodyFloatsOf 10 body-floats-sized card (8 * at) bodies i floats
+Inv-loop card at bodies words₀ floats₀ i₀ words floats i = (i ≤ bodies) × Written body bodyWordsOf 4 card (8 * at) bodies i words × Written body bodyFloatsOf 10 card (8 * at) bodies i floats
 
 abbrev μ-loop : tie.MeasureT-loop
 μ-loop card at bodies words₀ floats₀ i₀ words floats i = bodies - i
@@ -24,8 +24,8 @@ loop-holds c =
     let n = start .args .bodies in
     let p = 8 * start .args .at in (
       omega arith,
-      none body bodyWordsOf 4 body-words-sized card p n (start .args .words .now) (start .pre .1),
-      none body bodyFloatsOf 10 body-floats-sized card p n (start .args .floats .now) (start .pre .2),
+      none body bodyWordsOf 4 card p n (start .args .words .now) (start .pre .1),
+      none body bodyFloatsOf 10 card p n (start .args .floats .now) (start .pre .2),
     )
 
 load-body-requires : tie.Need-load-body-requires Inv-loop μ-loop

@@ -1,8 +1,17 @@
 use borrow.Author.Needs.{needs}
 use native.Mathlib.Omega.{arith}
+use Prim.Native.Nat.{ℕ}
 use mathlib.Core.Path.{_≡_, sym, _∙_}
+use mathlib.Core.List.{List}
+use lib.Ieee.{Float}
 use Rattle.card.specs.Answer.{numberOf}
-use Rattle.tick.proofs.Ticking.{card-refused, length-refused, start-passed, state-refused, run-refused, run-none, tick-refused, run-is, few, length-is, numbers-are, some}
+use Rattle.card.specs.Card.{cardOf}
+use Rattle.card.specs.Checks.{checkOf}
+use Rattle.loader.specs.Linkage.{linkageOf}
+use Rattle.loader.proofs.Accepted.{counts-within}
+use Rattle.tick.specs.Run.{runOf}
+use Rattle.tick.specs.Work.{allOrNothing, ticksOf}
+use Rattle.tick.proofs.Ticking.{card-refused, length-refused, start-passed, state-refused, run-refused, run-none, tick-refused, run-is, length-is, numbers-are, some}
 use Rattle.tick.proofs.run.run.Statement.{statement}
 use Rattle.tick.proofs.run.run.Tie as tie
 
@@ -19,7 +28,7 @@ state-length-requires c κs =
     let c3 = c2 .before in
     let c6 = c3 .before .before .before in
     let z = sym (c3 .check .ensures) ∙ sym (c2 .number .ensures) ∙ c1 .if1 .left in
-    let m = few (c6 .args .card .now) z ((c .header-of) .ensures) in
+    let m = counts-within (c6 .args .card .now) z ((c .header-of) .ensures) in
     (omega (arith, m), omega (arith, m))
 
 bad-numbers-requires : tie.Need-bad-numbers-requires
@@ -28,15 +37,52 @@ bad-numbers-requires c κs =
     let c3 = c2 .before in
     omega (arith, c2 .if2 .left, c3 .state-length .ensures)
 
-run-accepted-requires : tie.Need-run-accepted-requires
-run-accepted-requires c κs =
-    let c5 = c .before .before .before .before .before in
-    let c6 = c5 .before in
-    let c7 = c6 .before in
-    let c8 = c7 .before in
-    let c9 = c8 .before in
-    let c10 = c9 .before in
-    (sym (c10 .check .ensures) ∙ sym (c9 .number .ensures) ∙ c8 .if1 .left, c7 .header-of .ensures, c5 .if2 .left ∙ c6 .state-length .ensures)
+-- ---- past the last refusal
+
+abbrev header : tie.Else4 → tie.After-header-of
+header n = n .before .before .before .before .before .before
+
+abbrev card : tie.Else4 → List ℕ
+card n = header n .before .before .before .before .before .before .args .card .now
+
+abbrev state : tie.Else4 → List Float
+state n = header n .before .before .before .before .before .before .args .state .now
+
+checked : (n : tie.Else4) → checkOf (card n) ≡ 0
+checked n =
+    let known = header n .before in
+    let number = known .before in
+    sym (number .before .check .ensures) ∙ sym (number .number .ensures) ∙ known .if1 .left
+
+ran-so : (n : tie.Else4) (ticks : ℕ) → allOrNothing (state n) (ticksOf (linkageOf (cardOf (card n))) (state n) ticks) ≡ runOf (card n) (state n) ticks
+ran-so n ticks =
+    let z = checked n in
+    let sized = n .before .before .before .before in
+    let len = sized .if2 .left ∙ sized .before .state-length .ensures ∙ length-is (card n) z (header n .header-of .ensures) in
+    run-is (card n) z (state n) (len, numbers-are (card n) z (header n .header-of .ensures) (state n) ∙ sym (n .before .bad-numbers .ensures) ∙ n .if4 .left) ticks
+
+run-few-requires : tie.Need-run-few-requires
+run-few-requires c κs =
+    let few = c .before in
+    let larger = few .before in
+    let n = larger .before in
+    let sized = n .before .before .before .before in
+    (checked n, header n .header-of .ensures, sized .if2 .left ∙ sized .before .state-length .ensures, omega (arith, few .if5 .taken, larger .larger .ensures), omega (arith, few .if5 .taken, larger .larger .ensures))
+
+run-many-requires : tie.Need-run-many-requires
+run-many-requires c κs =
+    let many = c .before in
+    let larger = many .before .before in
+    let n = larger .before in
+    let sized = n .before .before .before .before in
+    (checked n, header n .header-of .ensures, sized .if2 .left ∙ sized .before .state-length .ensures, omega (arith, many .if6 .taken, larger .larger .ensures), omega (arith, many .if6 .taken, larger .larger .ensures))
+
+run-most-requires : tie.Need-run-most-requires
+run-most-requires c κs =
+    let n = c .before .before .before .before in
+    let sized = n .before .before .before .before in
+    let within = counts-within (card n) (checked n) (header n .header-of .ensures) in
+    (checked n, header n .header-of .ensures, sized .if2 .left ∙ sized .before .state-length .ensures, omega (arith, within), omega (arith, within))
 
 returns : tie.Need-returns
 returns c =
@@ -105,28 +151,18 @@ returns-4 c =
     (tick-refused card s (start-passed card s z len) (state-refused card s z len bad) (λ e. omega (arith, e)) (some (c13 .args .ticks) (c4 .if3 .left)))
 
 returns-5 : tie.Need-returns-5
-returns-5 c =
-    let c2 = c .before .before in
-    let c4 = c2 .before .before in
-    let c5 = c4 .before in
-    let c8 = c5 .before .before .before in
-    let c9 = c8 .before in
-    let c10 = c9 .before in
-    let c11 = c10 .before in
-    let c12 = c11 .before in
-    let c13 = c12 .before in
-    let c16 = c13 .before .before .before in
-    let card = c16 .args .card .now in
-    let s = c16 .args .state .now in
-    let z = sym (c13 .check .ensures) ∙ sym (c12 .number .ensures) ∙ c11 .if1 .left in
-    let size = length-is card z (c10 .header-of .ensures) in
-    let len = c8 .if2 .left ∙ c9 .state-length .ensures ∙ size in
-    let ok = numbers-are card z (c10 .header-of .ensures) s ∙ sym (c5 .bad-numbers .ensures) ∙ c4 .if4 .left in
-    c2 .run-accepted .ensures ∙ run-is card z s (len, ok) _
+returns-5 c = let run = c .before .before in run .run-few .ensures ∙ ran-so (run .before .before .before .before) _
+
+returns-6 : tie.Need-returns-6
+returns-6 c = let run = c .before .before in run .run-many .ensures ∙ ran-so (run .before .before .before .before .before) _
+
+returns-7 : tie.Need-returns-7
+returns-7 c = let run = c .before .before in run .run-most .ensures ∙ ran-so (run .before .before .before .before .before) _
 
 pub run-spec : {M : Type 1} → statement M
 run-spec =
     tie.close
     (tie.spec
-    (λ _ _. tt) (λ _ _. tt) (λ _ _. tt) returns header-of-requires state-length-requires (λ _ _. tt) returns-2 (λ _ _. tt) returns-3 bad-numbers-requires (λ _ _. tt) (λ c. search needs)
-    returns-4 run-accepted-requires (λ c. search needs) returns-5)
+    (λ _ _. tt) (λ _ _. tt) (λ _ _. tt) returns header-of-requires state-length-requires (λ _ _. tt) returns-2 (λ _ _. tt) returns-3
+    bad-numbers-requires (λ _ _. tt) (λ c. search needs) returns-4 (λ _ _. tt)
+    run-few-requires (λ c. search needs) returns-5 run-many-requires (λ c. search needs) returns-6 run-most-requires (λ c. search needs) returns-7)

@@ -1,0 +1,12 @@
+pub mod Packing
+pub mod Editions
+pub mod Examples
+pub mod Cards
+pub mod Numbers
+pub mod Taken
+pub mod Answers
+pub mod Converts
+pub mod Pieces
+pub mod Sizes
+pub mod Starts
+pub mod Accepting

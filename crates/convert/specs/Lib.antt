@@ -1,0 +1,4 @@
+pub mod Convert
+pub mod Converts
+pub mod Examples
+pub mod Parts
