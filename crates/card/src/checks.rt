@@ -52,7 +52,7 @@ fn any_outside(part: &[u8], low: f32, high: f32, at: usize, count: usize) -> boo
 }
 
 // Which of the checks a record fails by itself, or one of several records.
-#[derive(Drop)]
+#[derive(Clone, Copy)]
 pub struct Faults {
     // 6
     pub bits: bool,

@@ -2,7 +2,7 @@
 ghost use Rattle.std.specs.Prelude.{◌≡◌};
 ghost use Rattle.card.specs.Parts.{Listed, sizes_of};
 
-#[derive(Drop)]
+#[derive(Clone, Copy)]
 pub struct EditionSizes {
     pub header_bytes: usize,
     // Of bodies and of joints.

@@ -2,7 +2,7 @@
 ghost use Rattle.std.specs.Prelude.{◌≡◌};
 ghost use Rattle.card.specs.Parts.{kind_with, kind_for};
 
-#[derive(Drop)]
+#[derive(Clone, Copy)]
 pub struct JointKind {
     pub bases: bool,
     pub axis: bool,

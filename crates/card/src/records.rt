@@ -6,7 +6,7 @@ ghost use Rattle.card.specs.Parts.{Listed, header_bits, body_bits, joint_bits};
 
 use crate::bits::{bits8_at, bits16_at, bits24_at, bits32_at};
 
-#[derive(Drop)]
+#[derive(Clone, Copy)]
 pub struct HeaderBits {
     pub bodies: usize,
     pub joints: usize,
@@ -15,7 +15,7 @@ pub struct HeaderBits {
     pub zero: u32,
 }
 
-#[derive(Drop)]
+#[derive(Clone, Copy)]
 pub struct BodyBits {
     pub anchored: bool,
     pub lock_x: u32,
@@ -26,7 +26,7 @@ pub struct BodyBits {
     pub zero: u32,
 }
 
-#[derive(Drop)]
+#[derive(Clone, Copy)]
 pub struct JointBits {
     pub kind: u32,
     pub body1: usize,

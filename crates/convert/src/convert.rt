@@ -15,7 +15,7 @@ use card::edition::sizes_of;
 use card::layout::{BODY_BYTES, JOINT_BYTES, LEAST_BYTES};
 use card::records::{HeaderBits, header_bits};
 
-#[derive(Drop)]
+#[derive(Clone, Copy)]
 pub struct Converted {
     pub answer: Answer,
     // Of the result, in bytes; 0 where there is none.

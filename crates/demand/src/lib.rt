@@ -1,1 +1,2 @@
 // Demand 3 over whole ticks and lists of calls: definitions and proofs alone.
+#![tactic(auto)]

@@ -1,4 +1,6 @@
 // The table's calls for C and Rust: a slice is a pointer and a count. Each answers the refusal's number, 0 for done.
+#![tactic(auto)]
+
 ghost use Rattle.std.specs.Prelude.{◌≡◌};
 ghost use Rattle.card.specs.Checks.{check_of};
 ghost use Rattle.state.specs.State.{answered, start_of, sizes_of};

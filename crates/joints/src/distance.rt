@@ -2,7 +2,7 @@
 use crate::DistanceLimit;
 use vector::Vec3;
 
-#[derive(Drop)]
+#[derive(Clone, Copy)]
 pub struct DistanceJoint {
     pub anchor1: Vec3,
     pub anchor2: Vec3,

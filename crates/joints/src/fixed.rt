@@ -1,7 +1,7 @@
 // A joint that holds both the relative position and the relative rotation of two bodies (src/dynamics/joints/fixed.rs).
 use crate::JointFrame;
 
-#[derive(Drop)]
+#[derive(Clone, Copy)]
 pub struct FixedJoint {
     pub frame1: JointFrame,
     pub frame2: JointFrame,

@@ -1,5 +1,7 @@
 // Joints, their limits and motors (src/dynamics/joints).
 // The card's hinge, slide, ball and tether are the revolute, prismatic, spherical and distance joint.
+#![tactic(auto)]
+
 ghost use Rattle.std.specs.Prelude.{◌≡◌};
 ghost use Rattle.joints.specs.Limit.{distance_correction, axis_correction, obtuse, wrapped, angle_about, angle_correction};
 ghost use Rattle.joints.specs.Reach.{InReach};
@@ -22,7 +24,7 @@ use prismatic::PrismaticJoint;
 use revolute::RevoluteJoint;
 use spherical::SphericalJoint;
 
-#[derive(Drop)]
+#[derive(Clone, Copy)]
 pub enum Joint {
     Fixed(FixedJoint),
     Revolute(RevoluteJoint),
@@ -32,26 +34,26 @@ pub enum Joint {
 }
 
 // A joint's anchor and basis, relative to a body.
-#[derive(Drop)]
+#[derive(Clone, Copy)]
 pub struct JointFrame {
     pub anchor: Vec3,
     pub basis: Quat,
 }
 
-#[derive(Drop)]
+#[derive(Clone, Copy)]
 pub struct DistanceLimit {
     pub min: f32,
     pub max: f32,
 }
 
-#[derive(Drop)]
+#[derive(Clone, Copy)]
 pub enum DistanceLimitOption {
     Unlimited,
     Limited(DistanceLimit),
 }
 
 // Where nothing is to be corrected, both are zero.
-#[derive(Drop)]
+#[derive(Clone, Copy)]
 pub struct DistanceCorrection {
     pub direction: Vec3,
     pub magnitude: f32,
@@ -104,19 +106,19 @@ impl DistanceLimit {
     }
 }
 
-#[derive(Drop)]
+#[derive(Clone, Copy)]
 pub struct AngleLimit {
     pub min: f32,
     pub max: f32,
 }
 
-#[derive(Drop)]
+#[derive(Clone, Copy)]
 pub enum AngleLimitOption {
     Unlimited,
     Limited(AngleLimit),
 }
 
-#[derive(Drop)]
+#[derive(Clone, Copy)]
 pub enum AngleCorrection {
     None,
     Some(Vec3),

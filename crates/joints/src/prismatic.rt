@@ -3,7 +3,7 @@ use crate::motor::LinearMotor;
 use crate::{DistanceLimitOption, JointFrame};
 use vector::Vec3;
 
-#[derive(Drop)]
+#[derive(Clone, Copy)]
 pub struct PrismaticJoint {
     pub frame1: JointFrame,
     pub frame2: JointFrame,

@@ -3,7 +3,7 @@ use crate::motor::AngularMotor;
 use crate::{AngleLimitOption, JointFrame};
 use vector::Vec3;
 
-#[derive(Drop)]
+#[derive(Clone, Copy)]
 pub struct RevoluteJoint {
     pub frame1: JointFrame,
     pub frame2: JointFrame,

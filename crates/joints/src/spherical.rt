@@ -2,7 +2,7 @@
 use crate::{AngleLimitOption, JointFrame};
 use vector::Vec3;
 
-#[derive(Drop)]
+#[derive(Clone, Copy)]
 pub struct SphericalJoint {
     pub frame1: JointFrame,
     pub frame2: JointFrame,

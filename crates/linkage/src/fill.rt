@@ -7,7 +7,7 @@ use crate::lines::{put_lines, put_refusal};
 use tick::run::tick;
 
 // How many bytes of the buffer were filled, and how many ticks are done: all of them, where one was refused.
-#[derive(Drop)]
+#[derive(Clone, Copy)]
 pub struct Filled {
     pub bytes: usize,
     pub done: u64,

@@ -1,4 +1,6 @@
 // The linkage table's program: a tick count and a card from standard input, the bodies' poses after each tick to standard output.
+#![tactic(auto)]
+
 mod fill;
 mod lines;
 

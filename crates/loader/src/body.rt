@@ -8,7 +8,7 @@ use numbers::vec3_in;
 use solver_body::SolverBodyInertia;
 use vector::{Quat, SymmetricTensor, Vec3};
 
-#[derive(Drop)]
+#[derive(Clone, Copy)]
 pub struct LinkBody {
     pub anchored: bool,
     // The dummy's for an anchored body.

@@ -9,7 +9,7 @@ use card::edition::sizes_of;
 use card::layout::{GRAVITY, WARM_COEFFICIENT};
 use card::records::header_bits;
 
-#[derive(Drop)]
+#[derive(Clone, Copy)]
 pub struct Header {
     pub bodies: usize,
     pub joints: usize,

@@ -16,7 +16,7 @@ use joints::spherical::SphericalJoint;
 use joints::{AngleLimit, AngleLimitOption, DistanceLimit, DistanceLimitOption, Joint, JointFrame};
 use numbers::{quat_in, vec3_in};
 
-#[derive(Drop)]
+#[derive(Clone, Copy)]
 pub enum CardJoint {
     Known(Joint),
     // A kind number above 4, which no accepted card has.

@@ -1,4 +1,6 @@
 // What the programs that replay the oracle's stored answers share: numbers from bytes, high byte first, and numbers as hexadecimal bits.
+#![tactic(auto)]
+
 ghost use Rattle.std.specs.Prelude.{◌<◌};
 
 fn wide(x: u8) -> u32

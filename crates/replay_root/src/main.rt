@@ -1,4 +1,6 @@
 // Replays the oracle's list of roots: a number's four bytes to a line with the number and its root.
+#![tactic(auto)]
+
 use replay::{number, print_line_end, print_number, print_space, word};
 use root::sqrt;
 

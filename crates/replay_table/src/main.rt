@@ -1,5 +1,7 @@
 // Replays the oracle's list of runs: a tick count and a card's length, two bytes each, and the card, to a line with the number that a run from the start
 // state answers, the ticks that it did, and the sum of the state after it.
+#![tactic(auto)]
+
 ghost use Rattle.std.specs.Prelude.{◌<◌};
 
 use replay::{bits, print_line_end, print_space};

@@ -1,5 +1,7 @@
 // Replays the oracle's list of angles: y and x, four bytes each, to a line with y, x, the sine and the cosine of y, atan2(y, x) and the arc sine
 // of y.
+#![tactic(auto)]
+
 use replay::{number, print_line_end, print_number, print_space, word};
 use trig::{asin, atan2, sin_cos};
 

@@ -1,4 +1,6 @@
 // Bodies as the solver sees them: masses, locks and the dummy (src/dynamics/solver/solver_body/mod.rs).
+#![tactic(auto)]
+
 ghost use Rattle.std.specs.Prelude.{◌≡◌};
 ghost use Rattle.solver_body.specs.Body.{solver_body_of, unlocked, effective_inv_mass};
 ghost use Rattle.solver_body.specs.Parts.{is_valid};
@@ -9,7 +11,7 @@ use vector::{Quat, SymmetricTensor, Vec3};
 pub const POSITION_BOUND: f32 = 4096.0;
 
 // What a joint's `prepare` reads of a body.
-#[derive(Drop)]
+#[derive(Clone, Copy)]
 pub struct RigidBody {
     pub position: Vec3,
     pub rotation: Quat,
@@ -17,7 +19,7 @@ pub struct RigidBody {
 }
 
 // A body's 13 numbers: in the state, and in the card for the start.
-#[derive(Drop)]
+#[derive(Clone, Copy)]
 pub struct BodyState {
     pub position: Vec3,
     pub rotation: Quat,
@@ -41,7 +43,7 @@ impl BodyState {
 }
 
 // A body's velocities, and how far it was moved and turned since the step began.
-#[derive(Drop)]
+#[derive(Clone, Copy)]
 pub struct SolverBody {
     pub linear_velocity: Vec3,
     pub angular_velocity: Vec3,
@@ -49,7 +51,7 @@ pub struct SolverBody {
     pub delta_rotation: Quat,
 }
 
-#[derive(Drop)]
+#[derive(Clone, Copy)]
 pub struct BodyPair {
     pub body1: SolverBody,
     pub body2: SolverBody,
@@ -76,7 +78,7 @@ impl SolverBody {
     };
 }
 
-#[derive(Drop)]
+#[derive(Clone, Copy)]
 pub struct SolverBodyInertia {
     pub inv_mass: f32,
     // In world axes.
@@ -115,7 +117,7 @@ impl SolverBodyInertia {
 }
 
 // Where a body stands among the solver's bodies.
-#[derive(Drop)]
+#[derive(Clone, Copy)]
 pub struct SolverBodyIndex(pub u32);
 
 impl SolverBodyIndex {

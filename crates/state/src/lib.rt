@@ -1,4 +1,6 @@
 // The state: where a body's and a joint's numbers stand, the refusals 11 and 12, its start and its size.
+#![tactic(auto)]
+
 pub mod check;
 pub mod places;
 pub mod sizes;

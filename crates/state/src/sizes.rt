@@ -9,7 +9,7 @@ use card::bits::bits8_at;
 use card::checks::check;
 use card::records::header_bits;
 
-#[derive(Drop)]
+#[derive(Clone, Copy)]
 pub struct CardSizes {
     pub answer: Answer,
     pub bodies: usize,

@@ -48,7 +48,7 @@ fn totals_finite(totals: JointTotals) -> bool
 }
 
 // What a tick keeps of a joint's solve.
-#[derive(Drop)]
+#[derive(Clone, Copy)]
 pub struct JointResult {
     pub finite: bool,
     pub bodies: BodyPair,

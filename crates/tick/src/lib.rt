@@ -1,4 +1,6 @@
 // Ticks of a card: the public calls `tick` and `run`, and below them a tick's steps over all bodies or joints of a linkage, one joint and one body.
+#![tactic(auto)]
+
 pub mod body;
 pub mod finite;
 pub mod joint;

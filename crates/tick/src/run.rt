@@ -22,7 +22,7 @@ use state::check::bad_numbers;
 use state::places::{BODY_NUMBERS, JOINT_NUMBERS, state_length};
 
 // What a run answers, and how many ticks were done.
-#[derive(Drop)]
+#[derive(Clone, Copy)]
 pub struct RunAnswer {
     pub answer: Answer,
     pub ticks: u32,

@@ -1,4 +1,6 @@
 // Sine, cosine, arctangent and arc sine of an f32, by two tables of 1,025 whole numbers.
+#![tactic(auto)]
+
 ghost use Rattle.std.specs.Prelude.{◌≡◌, ◌+◌, ◌<◌, ◌≤◌, ◌&&◌, T, pos};
 ghost use Rattle.std.specs.Float.Ieee.{le, eq};
 ghost use Rattle.scalar.specs.Arith.{f0, f1};
@@ -53,7 +55,7 @@ fn scaled(x: f32) -> u64
 }
 
 // A quarter of the wave at one fraction: sizes on the way up and on the way down.
-#[derive(Drop)]
+#[derive(Clone, Copy)]
 struct Sizes {
     rising: u32,
     falling: u32,
@@ -69,7 +71,7 @@ fn quarter(i: usize, f: u64) -> Sizes
     }
 }
 
-#[derive(Drop)]
+#[derive(Clone, Copy)]
 pub struct SinCos {
     pub sin: f32,
     pub cos: f32,

@@ -1,4 +1,6 @@
 // Vectors, rotations, matrices and symmetric tensors of f32, by value, as document 01 has them under "Arithmetic beneath".
+#![tactic(auto)]
+
 ghost use Rattle.std.specs.Prelude.{◌≡◌, T};
 ghost use Rattle.std.specs.Float.Ieee.{le};
 ghost use Rattle.scalar.specs.Arith.{◌⊗◌, half};
@@ -12,14 +14,14 @@ use root::sqrt;
 use scalar::{abs, is_sign_negative, max};
 use trig::{SinCos, sin_cos, sin_cos_in_reach};
 
-#[derive(Drop)]
+#[derive(Clone, Copy)]
 pub struct Vec3 {
     pub x: f32,
     pub y: f32,
     pub z: f32,
 }
 
-#[derive(Drop)]
+#[derive(Clone, Copy)]
 pub struct Quat {
     pub x: f32,
     pub y: f32,
@@ -27,14 +29,14 @@ pub struct Quat {
     pub w: f32,
 }
 
-#[derive(Drop)]
+#[derive(Clone, Copy)]
 pub struct Mat3 {
     pub x_axis: Vec3,
     pub y_axis: Vec3,
     pub z_axis: Vec3,
 }
 
-#[derive(Drop)]
+#[derive(Clone, Copy)]
 pub struct SymmetricTensor {
     pub xx: f32,
     pub xy: f32,

@@ -11,7 +11,7 @@ use solver_body::{BodyPair, SolverBody};
 use vector::{Quat, SymmetricTensor, Vec3};
 
 // Both bodies after a correction, and what it adds to the constraint's total.
-#[derive(Drop)]
+#[derive(Clone, Copy)]
 pub struct Corrected {
     pub bodies: BodyPair,
     pub lagrange: Vec3,

@@ -17,7 +17,7 @@ use xpbd::positional_constraint::{
     weight,
 };
 
-#[derive(Drop)]
+#[derive(Clone, Copy)]
 pub struct PrismaticJointSolverData {
     pub world_r1: Vec3,
     pub world_r2: Vec3,
@@ -28,14 +28,14 @@ pub struct PrismaticJointSolverData {
     pub total_motor_lagrange: f32,
 }
 
-#[derive(Drop)]
+#[derive(Clone, Copy)]
 pub struct PrismaticSolved {
     pub solver_data: PrismaticJointSolverData,
     pub bodies: BodyPair,
 }
 
 // After the motor, which adds to two totals.
-#[derive(Drop)]
+#[derive(Clone, Copy)]
 pub struct Driven {
     pub bodies: BodyPair,
     pub total_position_lagrange: Vec3,

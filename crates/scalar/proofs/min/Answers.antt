@@ -1,0 +1,11 @@
+-- One comparison.
+use Rattle.scalar.specs.Scalar.{min_of}
+use Rattle.scalar.proofs.min.Goals as goal
+
+pub returns-then-b-a : goal.returns-then-b-a
+unfolding min_of
+returns-then-b-a c = simp c.if-b-a.true
+
+pub returns-else-b-a : goal.returns-else-b-a
+unfolding min_of
+returns-else-b-a c = simp c.if-b-a.false
