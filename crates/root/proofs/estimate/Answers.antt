@@ -3,8 +3,7 @@ use Prim.Native.Nat.{ℕ, ◌*◌, ◌/◌, ◌%◌, ◌≤◌, ◌<◌}
 use native.Mathlib.Nat.{mul-le-mul}
 use native.Mathlib.Omega.{arith}
 use borrow.Author.Rules.{rules}
-use Rattle.root.proofs.estimate.Statement.{statement}
-use Rattle.root.proofs.estimate.Tie as tie
+use Rattle.root.proofs.estimate.Goals as goal
 
 product : (x p y q : ℕ) → x ≤ p → y ≤ q → x * y ≤ p * q
 product x p y q h k = mul-le-mul h k
@@ -18,23 +17,20 @@ square w h = product w 65535 w 65535 (omega arith) (omega arith)
 bends : (v w : ℕ) → w < 65536 → v / 4194304 % 2048 * (w * w / 16384) ≤ 2047 * 262136
 bends v w h = product (v / 4194304 % 2048) 2047 (w * w / 16384) 262136 (omega arith) (omega (arith, square w h))
 
-mul-result-2 : tie.Need-overflow-mul-result-2
-mul-result-2 c = omega (arith, rises c.args.v c.args.w c.requires.1)
+pub overflow_mul-result-2 : goal.overflow_mul-result-2
+overflow_mul-result-2 c = omega (arith, rises c.args.v c.args.w c.requires.1)
 
-add-result : tie.Need-overflow-add-result
-add-result c = omega (arith, rises c.args.v c.args.w c.requires.1)
+pub overflow_add-result : goal.overflow_add-result
+overflow_add-result c = omega (arith, rises c.args.v c.args.w c.requires.1)
 
-mul-result-3 : tie.Need-overflow-mul-result-3
-mul-result-3 c = omega (arith, square c.args.w c.requires.1)
+pub overflow_mul-result-3 : goal.overflow_mul-result-3
+overflow_mul-result-3 c = omega (arith, square c.args.w c.requires.1)
 
-mul-result-4 : tie.Need-overflow-mul-result-4
-mul-result-4 c = omega (arith, bends c.args.v c.args.w c.requires.1)
+pub overflow_mul-result-4 : goal.overflow_mul-result-4
+overflow_mul-result-4 c = omega (arith, bends c.args.v c.args.w c.requires.1)
 
-sub-result : tie.Need-overflow-sub-result
-sub-result c = omega (arith, bends c.args.v c.args.w c.requires.1)
+pub overflow_sub-result : goal.overflow_sub-result
+overflow_sub-result c = omega (arith, bends c.args.v c.args.w c.requires.1)
 
-returns : tie.Need-returns
+pub returns : goal.returns
 returns c = omega (arith, rises c.args.v c.args.w c.requires.1)
-
-pub estimate-spec : {M : Type 1} → statement M
-estimate-spec = tie.close (tie.spec (λ c. search rules) mul-result-2 add-result mul-result-3 mul-result-4 sub-result returns)
