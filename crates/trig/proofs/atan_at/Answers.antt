@@ -5,11 +5,10 @@ use Rattle.trig.specs.Interpolation.{interpolated}
 use Rattle.trig.specs.Arctangent.{atan_at}
 use Rattle.trig.proofs.InterpolatedSizes.{line_size_lem, finer}
 use Rattle.trig.proofs.CarriedTable.{arc_small}
-use Rattle.trig.proofs.atan_at.Statement.{statement}
-use Rattle.trig.proofs.atan_at.Tie as tie
+use Rattle.trig.proofs.atan_at.Goals as goal
 
-interpolate-requires : tie.Need-interpolate-requires
-interpolate-requires c κs = let k = c.before.before.before.args.k in omega (arith, arc_small (k / 16384) (omega arith), arc_small (k / 16384 + 1) (omega arith))
+pub interpolate-requires : goal.interpolate-requires
+interpolate-requires c = let k = c.before.before.before.args.k in omega (arith, arc_small (k / 16384) (omega arith), arc_small (k / 16384 + 1) (omega arith))
 
 -- 4 f over 2^16 is f over 2^14
 same_line : (t u f : ℕ) → f < 16384 → interpolated 65536 (pos t) (pos u) (f * 4) ≡ interpolated 16384 (pos t) (pos u) f
@@ -23,15 +22,8 @@ top : (k t : ℕ) → 16777216 ≤ k → t ≡ get_or arcs 1024 0 → pos (t / 6
 unfolding atan_at arcs
 top k t h e = rw (le-ltb k 16777216 h, e)
 
-returns : tie.Need-returns
-returns c = (below c.before.before.before.before.args.k c.interpolate.result (omega arith) (cc), c.interpolate.ensures.1)
+pub returns-then-k-lt16777216 : goal.returns-then-k-lt16777216
+returns-then-k-lt16777216 c = (below c.before.before.before.before.args.k c.interpolate.result (omega arith) (cc), c.interpolate.ensures.1)
 
-returns-2 : tie.Need-returns-2
-returns-2 c = (top c.before.before.args.k c.arctangent-at3.result (omega arith) c.arctangent-at3.ensures, omega (arith, arc_small 1024 (lit< tt)))
-
-pub atan-at-spec : {M : Type 1} → statement M
-atan-at-spec =
-    tie.close
-    (tie.spec
-    (λ c. search rules) (λ c. search rules) (λ c. search rules) (λ c. search rules) interpolate-requires
-    (λ c. search rules) returns returns-2)
+pub returns-else-k-lt16777216 : goal.returns-else-k-lt16777216
+returns-else-k-lt16777216 c = (top c.before.before.args.k c.arctangent_at-else-k-lt16777216.result (omega arith) c.arctangent_at-else-k-lt16777216.ensures, omega (arith, arc_small 1024 (lit< tt)))

@@ -4,8 +4,7 @@ use lib.Ieee.{neg, in_float}
 use Rattle.trig.specs.Interpolation.{over_unit}
 use Rattle.trig.specs.Parts.{signed}
 use Rattle.trig.proofs.WholeOverUnit.{minus_unit}
-use Rattle.trig.proofs.over_unit.Statement.{statement}
-use Rattle.trig.proofs.over_unit.Tie as tie
+use Rattle.trig.proofs.over_unit.Goals as goal
 
 plus : (s : Bool) (m : ℕ) → s ≡ false → over_unit (pos m) ≡ over_unit (signed s m)
 plus s m e = rw e
@@ -19,24 +18,18 @@ minus true zero e h = absurd (h refl)
 minus true (suc m) e h = minus_unit m
 minus false m e h = absurd (subst T (sym e) tt)
 
-int-to-float-v : tie.Need-int-to-float-v
+pub int_to_float-v : goal.int_to_float-v
 unfolding in_float
-int-to-float-v c = rw (le-leb c.before.args.m 16777216 (omega arith)) tt
+int_to_float-v c = rw (le-leb c.before.args.m 16777216 (omega arith)) tt
 
-returns : tie.Need-returns
+pub returns-then-m-eq0 : goal.returns-then-m-eq0
 unfolding over_unit
-returns c = let a = c.before.before.before.args in none a.negative a.m (omega arith)
+returns-then-m-eq0 c = let a = c.before.before.before.args in none a.negative a.m (omega arith)
 
-returns-2 : tie.Need-returns-2
+pub returns-else-m-eq0 : goal.returns-else-m-eq0
 unfolding over_unit
-returns-2 c = let a = c.before.before.before.args in minus a.negative a.m c.before.if1.true c.if2.false
+returns-else-m-eq0 c = let a = c.before.before.before.args in minus a.negative a.m c.before.if-negative.true c.if-m-eq0.false
 
-returns-3 : tie.Need-returns-3
+pub returns-else-negative : goal.returns-else-negative
 unfolding over_unit
-returns-3 c = let a = c.before.before.args in plus a.negative a.m c.if1.false
-
-pub over-unit-spec : {M : Type 1} → statement M
-over-unit-spec =
-    tie.close
-    (tie.spec
-    int-to-float-v returns returns-2 returns-3)
+returns-else-negative c = let a = c.before.before.args in plus a.negative a.m c.if-negative.false

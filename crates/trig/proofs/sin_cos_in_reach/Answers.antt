@@ -5,8 +5,8 @@ use Rattle.scalar.specs.Arith.{if◌then◌else◌, f0}
 use Rattle.scalar.specs.Scalar.{abs_of}
 use Rattle.trig.specs.Sine.{scaled_of, phase_of, step_of, fraction_of, table_sine, sin_in_reach, cos_in_reach, sin_small, cos_small, sixteen, sixty_fourth}
 use Rattle.scalar.proofs.Sizes.{abs-abs}
-use Rattle.trig.proofs.sin_cos_in_reach.Statement.{statement}
-use Rattle.trig.proofs.sin_cos_in_reach.Tie as tie
+use Rattle.trig.proofs.sin_cos_in_reach.Goals.{After-scaled}
+use Rattle.trig.proofs.sin_cos_in_reach.Goals as goal
 
 -- a test on the size r, as a test on a
 small : (r a : Float) (b : Bool) → r ≡ abs_of a → lt r sixty_fourth ≡ b → lt (abs_of a) sixty_fourth ≡ b
@@ -15,20 +15,20 @@ small r a b e h = sym (ap (λ (v : Float). lt v sixty_fourth) e) ∙ h
 abbrev sided : Bool → Float → Float
 sided b v = if b then neg v else v
 
-returns : tie.Need-returns
+pub returns-then-x : goal.returns-then-x
 unfolding sin_in_reach cos_in_reach sin_small cos_small
-returns c =
+returns-then-x c =
     let n = c.before in
-    let k = small n.abs.result n.before.args.a true n.abs.ensures c.if1.true in
+    let k = small n.abs-x.result n.before.args.a true n.abs-x.ensures c.if-x.true in
     (rw k, rw k)
 
-scaled-requires : tie.Need-scaled-requires
-scaled-requires c κs =
+pub scaled-requires : goal.scaled-requires
+scaled-requires c =
     let n = c.before in
-    (subst (λ (v : Float). T (le v sixteen)) (sym n.abs.ensures) n.before.requires, n.abs.ensures ∙ abs-abs n.before.args.a ∙ ap abs_of (sym n.abs.ensures))
+    (subst (λ (v : Float). T (le v sixteen)) (sym n.abs-x.ensures) n.before.requires, n.abs-x.ensures ∙ abs-abs n.before.args.a ∙ ap abs_of (sym n.abs-x.ensures))
 
 -- by the table, b whether the angle is below zero
-by_table : (c : tie.After-scaled) (b : Bool) →
+by_table : (c : After-scaled) (b : Bool) →
     let a = c.before.before.before.args.a in
     let q = c.scaled.result * 8589934592 / 3373259426 in
     lt a f0 ≡ b →
@@ -36,27 +36,20 @@ by_table : (c : tie.After-scaled) (b : Bool) →
 unfolding sin_in_reach cos_in_reach
 by_table c b e =
     let n = c.before.before in
-    let k = small n.abs.result n.before.args.a false n.abs.ensures c.before.if1.false in
-    let t = ap phase_of (c.scaled.ensures.0 ∙ ap scaled_of n.abs.ensures) in (
+    let k = small n.abs-x.result n.before.args.a false n.abs-x.ensures c.before.if-x.false in
+    let t = ap phase_of (c.scaled.ensures.0 ∙ ap scaled_of n.abs-x.ensures) in (
       rw (k, e) (ap (λ (q : ℕ). sided b (table_sine (step_of q) (fraction_of q))) t),
       rw k (ap (λ (q : ℕ). table_sine (step_of q + 1024) (fraction_of q)) t),
     )
 
-returns-2 : tie.Need-returns-2
-returns-2 c =
-    let w = c.before.table_sin_cos.ensures in
-    let t = by_table c.before.before.before true c.before.before.if2.true in
+pub returns-then-a : goal.returns-then-a
+returns-then-a c =
+    let w = c.before.table_sin_cos-w.ensures in
+    let t = by_table c.before.before.before true c.before.before.if-a.true in
     (ap neg w.0 ∙ t.0, w.1 ∙ t.1)
 
-returns-3 : tie.Need-returns-3
-returns-3 c =
-    let w = c.table-sin-cos2.ensures in
-    let t = by_table c.before.before false c.before.if2.false in
+pub returns : goal.returns
+returns c =
+    let w = c.table_sin_cos.ensures in
+    let t = by_table c.before.before false c.before.if-a.false in
     (w.0 ∙ t.0, w.1 ∙ t.1)
-
-pub sin-cos-in-reach-spec : {M : Type 1} → statement M
-sin-cos-in-reach-spec =
-    tie.close
-    (tie.spec
-    (λ c κs. search rules) returns scaled-requires (λ c. search rules) (λ c κs. search rules) returns-2
-    (λ c κs. search rules) returns-3)
