@@ -9,7 +9,7 @@ returns c =
     let c2 = c1.before in
     let c3 = c2.before in
     simp (
-      c3.Float-at.ensures,
+      c3.float_at.ensures,
       c2.float_at-2.ensures,
       c1.float_at-3.ensures,
       c.float_at-4.ensures,

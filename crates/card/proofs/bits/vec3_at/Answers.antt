@@ -8,7 +8,7 @@ returns c =
     let c1 = c.before in
     let c2 = c1.before in
     simp (
-      c2.Float-at.ensures,
+      c2.float_at.ensures,
       c1.float_at-2.ensures,
       c.float_at-3.ensures,
     )

@@ -13,10 +13,10 @@ pub loop-n-init : goal.loop-n-init
 loop-n-init c = (omega arith, any_none _)
 
 -- word n
-word : (c : After-bits32_at invariant_loop decreases_loop) → let l = c.before.before.loop-n in let a = c.before.before.before.before.args in c.bits32_at.result ≡ word_at a.part.now a.at l.n
+word : (c : After-bits32_at) → let l = c.loop-n in let a = c.args in c.bits32_at.result ≡ word_at a.part.now a.at l.n
 word c =
-    let c2 = c.before.before in
-    let c4 = c2.before.before in
+    let c2 = c in
+    let c4 = c2 in
     let l = c2.loop-n in
     let a = c4.args in
     let place : 8 * (a.at + 4 * l.n) ≡ 8 * a.at + 32 * l.n = omega arith in
@@ -27,14 +27,14 @@ unfolding set_at
 returns-then-bits32_at-ne0 c =
     let c1 = c.before in
     let c2 = c1.before in
-    sym (any_some _ _ _ c2.loop-n-test.true (rw (← (word (c1)), ne_eqb _ _ c.if-bits32_at-ne0.true)))
+    sym (any_some _ _ _ c2.loop-n-test.true (rw (← (word (goal.at.returns-then-bits32_at-ne0 c).After-bits32_at), ne_eqb _ _ c.if-bits32_at-ne0.true)))
 
 pub loop-n-preserved : goal.loop-n-preserved
 unfolding set_at
 loop-n-preserved c =
     let c1 = c.before in
     let c3 = c1.before.before in
-    (omega arith, any_more _ _ c3.loop-n.invariant.1 (rw (← (word (c1)), eq-eqb _ _ c.if-bits32_at-ne0.false)))
+    (omega arith, any_more _ _ c3.loop-n.invariant.1 (rw (← (word (goal.at.loop-n-preserved c).After-bits32_at), eq-eqb _ _ c.if-bits32_at-ne0.false)))
 
 pub returns : goal.returns
 returns c = any_done _ c.before.loop-n.invariant.1 (omega arith) (omega arith)

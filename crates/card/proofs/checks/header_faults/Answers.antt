@@ -15,22 +15,22 @@ returns c =
     header_are _ _ (rw z.sizes_of-end.ensures (header_of _ start.requires.0)) z.before.header_bits-h.ensures f.field.ensures c.field-2.ensures
 
 -- the header's bytes: room for its floats, and the part has them
-end : (c : After-sizes_of-end) → let bytes = c.sizes_of-end.result.header_bytes in (12 ≤ bytes) × (bytes ≤ length c.before.before.before.args.part.now)
+end : (c : After-sizes_of-end) → let bytes = c.sizes_of-end.result.header_bytes in (12 ≤ bytes) × (bytes ≤ length c.args.part.now)
 end c =
-    let start = c.before.before.before in
+    let start = c in
     rw c.sizes_of-end.ensures ((header_bytes_lem _ start.requires.0).0, start.requires.1)
 
 pub header_bits-h-requires : goal.header_bits-h-requires
 header_bits-h-requires c = (c.before.requires.0, omega (arith, header_bytes_lem _ c.before.requires.0, c.before.requires.1))
 
 pub overflow_sub-end : goal.overflow_sub-end
-overflow_sub-end c = omega (arith, end c.before)
+overflow_sub-end c = omega (arith, end (goal.at.overflow_sub-end c).After-sizes_of-end)
 
 pub field-requires : goal.field-requires
-field-requires c = omega (arith, end c.before)
+field-requires c = omega (arith, end (goal.at.field-requires c).After-sizes_of-end)
 
 pub overflow_sub-end-2 : goal.overflow_sub-end-2
-overflow_sub-end-2 c = omega (arith, end c.before.before)
+overflow_sub-end-2 c = omega (arith, end (goal.at.overflow_sub-end-2 c).After-sizes_of-end)
 
 pub field-requires-2 : goal.field-requires-2
-field-requires-2 c = omega (arith, end c.before.before)
+field-requires-2 c = omega (arith, end (goal.at.field-requires-2 c).After-sizes_of-end)

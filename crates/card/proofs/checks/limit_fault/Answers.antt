@@ -7,6 +7,6 @@ unfolding limit_at
 returns c =
     let c1 = c.before in
     simp (
-      c1.Float-at.ensures,
+      c1.float_at.ensures,
       c.float_at-2.ensures,
     )

@@ -9,7 +9,7 @@ returns c =
     let c2 = c1.before in
     let c3 = c2.before in
     simp (
-      c3.Float-at.ensures,
+      c3.float_at-min.ensures,
       c2.float_at-max.ensures,
       c1.outside.ensures,
       c.outside-2.ensures,
