@@ -1,0 +1,10 @@
+use borrow.Author.Rules.{rules}
+use Rattle.card.proofs.checks.rotation_fault.Goals as goal
+
+pub returns : goal.returns
+returns c =
+    let c1 = c.before in
+    simp (
+      c1.length_squared.ensures,
+      c.off_unit.ensures,
+    )
