@@ -6,15 +6,8 @@ use native.Mathlib.Omega.{arith}
 use Rattle.loader.specs.Linkage.{body_in}
 use Rattle.loader.specs.Parts.{body_at}
 use borrow.Author.Rules.{rules}
-use Rattle.loader.proofs.body.anchored_at.Statement.{statement}
-use Rattle.loader.proofs.body.anchored_at.Tie as tie
+use Rattle.loader.proofs.body.anchored_at.Goals as goal
 
-returns : tie.Need-returns
+pub returns : goal.returns
 unfolding body_at body_in
 returns c = λ f. ap (λ a. eqb a 1) (place _ (4 * c.before.args.i) 4 0 _ 0 (omega arith) (omega arith))
-
-pub anchored-at-spec : {M : Type 1} → statement M
-anchored-at-spec =
-    tie.close
-    (tie.spec
-    (λ c. search rules) (λ c. search rules) (λ c. search rules) returns)

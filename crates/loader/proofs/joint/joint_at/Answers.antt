@@ -3,10 +3,9 @@ use Rattle.loader.specs.Parts.{part, joint_at}
 use Rattle.loader.proofs.Parts.{cut}
 use Rattle.loader.proofs.Linkage.{known}
 use borrow.Author.Rules.{rules}
-use Rattle.loader.proofs.joint.joint_at.Statement.{statement}
-use Rattle.loader.proofs.joint.joint_at.Tie as tie
+use Rattle.loader.proofs.joint.joint_at.Goals as goal
 
-returns : tie.Need-returns
+pub returns : goal.returns
 unfolding joint_at
 returns c =
     let start = c.before.before.before.before.before.before.before in
@@ -17,12 +16,3 @@ returns c =
     let w = 4 * h.bodies + 6 * j in
     let f = 10 * h.bodies + 30 * j in
     cc (cut words w 6, cut floats f 30, known (part 6 w words) (part 30 f floats) (start.requires.0.kinds j start.requires.1))
-
-pub joint-at-spec : {M : Type 1} → statement M
-joint-at-spec =
-    tie.close
-    (tie.spec
-    (λ c. search rules) (λ c. search rules) (λ c. search rules) (λ c. search rules) (λ c. search rules)
-    (λ c. search rules) (λ c. search rules) (λ c. search rules) (λ c. search rules) (λ c. search rules)
-    (λ c. search rules) (λ c. search rules) (λ c. search rules) (λ c. search rules) (λ c. search rules)
-    (λ c. search rules) (λ c κs. search rules) returns)

@@ -1,0 +1,7 @@
+use Rattle.loader.specs.Linkage.{body_in}
+use borrow.Author.Rules.{rules}
+use Rattle.loader.proofs.body.body_in.Goals as goal
+
+pub returns : goal.returns
+unfolding body_in
+returns c = cc

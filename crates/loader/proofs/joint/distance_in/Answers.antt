@@ -1,0 +1,7 @@
+use Rattle.loader.specs.Linkage.{distance_in}
+use borrow.Author.Rules.{rules}
+use Rattle.loader.proofs.joint.distance_in.Goals as goal
+
+pub returns : goal.returns
+unfolding distance_in
+returns c = cc

@@ -1,0 +1,7 @@
+use Rattle.loader.specs.Linkage.{revolute_in}
+use borrow.Author.Rules.{rules}
+use Rattle.loader.proofs.joint.revolute_in.Goals as goal
+
+pub returns : goal.returns
+unfolding revolute_in
+returns c = cc
