@@ -7,8 +7,7 @@ use Rattle.card.specs.Format.{numbers_at}
 use Rattle.card.specs.Card.{body}
 use Rattle.card.specs.Parts.{float_at, vec3_at, quat_at}
 use Rattle.loader.specs.Linkage.{start_body}
-use Rattle.state.proofs.start.start_body.Statement.{statement}
-use Rattle.state.proofs.start.start_body.Tie as tie
+use Rattle.state.proofs.start.start_body.Goals as goal
 
 module _ (l : List ℕ) where
   abbrev by_bytes : BodyState
@@ -18,14 +17,10 @@ module _ (l : List ℕ) where
   unfolding vec3_at quat_at float_at numbers_at
   by_numbers = refl
 
-returns : tie.Need-returns
+pub returns : goal.returns
 returns c =
     let c1 = c.before in
     let c2 = c1.before in
     let c3 = c2.before in
-    simp (c3.vec3_at.ensures, c2.quat_at.ensures, c1.vec3-at2.ensures, c.vec3-at3.ensures)
+    simp (c3.vec3_at.ensures, c2.quat_at.ensures, c1.vec3_at-2.ensures, c.vec3_at-3.ensures)
     (by_numbers _)
-
-pub start-body-spec : {M : Type 1} → statement M
-start-body-spec =
-    tie.close (tie.spec (λ c κs. search rules) (λ c κs. search rules) (λ c κs. search rules) (λ c κs. search rules) returns)

@@ -1,0 +1,19 @@
+use Prim.Native.Nat.{◌+◌, ◌*◌, ◌-◌, ◌≤◌}
+use native.Mathlib.Omega.{arith}
+use mathlib.Core.Path.{◌≡◌, refl}
+use mathlib.Core.List.{◌++◌}
+use lib.ListN.{length, drop, length-set}
+use Rattle.card.specs.Format.{records_at}
+use Rattle.card.specs.Card.{body}
+use Rattle.card.proofs.Cut.{part_length}
+use Rattle.state.specs.State.{body_numbers}
+use Rattle.state.specs.Parts.{start_numbers}
+use Rattle.state.proofs.Starting.{none_done, next_body}
+use Rattle.state.proofs.start.write_bodies.Given as goal
+
+abbrev pub invariant-loop-i : goal.invariant-loop-i
+invariant-loop-i l =
+    (l.i ≤ l.bodies) × (length l.state ≡ length l.initial.state) × (l.state ≡ start_numbers (records_at body l.card (8 * l.at) l.i) ++ drop (body_numbers * l.i) l.initial.state)
+
+abbrev pub decreases-loop-i : goal.decreases-loop-i
+decreases-loop-i l = l.bodies - l.i
