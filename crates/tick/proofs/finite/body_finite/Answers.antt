@@ -1,0 +1,11 @@
+use Rattle.tick.proofs.All.{four}
+use Rattle.numbers.specs.Numbers.{numbers3, numbers4}
+use Rattle.tick.proofs.finite.body_finite.Goals as goal
+
+pub returns : goal.returns
+returns c =
+    let c1 = c.before in
+    let c2 = c1.before in
+    let c3 = c2.before in
+    let c4 = c3.before in
+    cc (c3.vec3_finite.ensures, c2.vec3_finite-2.ensures, c1.vec3_finite-3.ensures, c.quat_finite.ensures, four (numbers3 c4.args.b.linear_velocity) (numbers3 c4.args.b.angular_velocity) (numbers3 c4.args.b.delta_position) (numbers4 c4.args.b.delta_rotation))

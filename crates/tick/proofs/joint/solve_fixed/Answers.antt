@@ -1,0 +1,20 @@
+use Rattle.tick.proofs.Results.{fixed_result}
+use Rattle.tick.proofs.joint.solve_fixed.Goals as goal
+
+pub returns : goal.returns
+returns c =
+    let c1 = c.before in
+    let c2 = c1.before in
+    let c3 = c2.before in
+    let c4 = c3.before in
+    let c5 = c4.before in
+    let c6 = c5.before in
+    let c7 = c6.before in
+    let a = c7.before.args in
+    rw (fixed_result a.body1 a.body2 a.bodies a.inertia1 a.inertia2 a.dt a.joint)
+    (simp (
+      c7.prepare-prepared.ensures,
+      c6.solve-solved.ensures,
+      c1.point_finite.ensures,
+      c.quat_finite.ensures,
+    ))

@@ -1,0 +1,16 @@
+-- The first of the bodies are turned; a turn of the loop puts one more behind them.
+use Prim.Native.Nat.{◌+◌, ◌*◌, ◌-◌, ◌≤◌}
+use native.Mathlib.Omega.{arith}
+use mathlib.Core.Path.{◌≡◌, refl, ap, ◌∙◌}
+use lib.ListN.{length}
+use borrow.Author.Rules.{rules}
+use Rattle.loader.proofs.Parts.{cut, part_length}
+use Rattle.tick.proofs.Turning.{turned_to, turned_none, turned_more, turned_length, turned_all}
+use Rattle.tick.proofs.turn.turn_bodies.Given as goal
+
+abbrev pub invariant-loop-i : goal.invariant-loop-i
+invariant-loop-i l =
+    (l.i ≤ l.count) × (length l.floats ≡ length l.initial.floats) × (l.floats ≡ turned_to l.own l.state l.initial.floats l.i)
+
+abbrev pub decreases-loop-i : goal.decreases-loop-i
+decreases-loop-i l = l.count - l.i
