@@ -25,12 +25,12 @@ none_behind l k = drop_of_length-le (drop k l) {i = length l - k} (rw (length-dr
 module _ {A : Type 0} (out : List A) (w : ℕ) where
   -- copied to a part that reaches to the end
   pub copied : (source : List A) {part : List A} → w + length source ≤ length out
-      → part ≡ take (length source) source ++ drop (length source) (take (length out - w) (drop w out))
+      → part ≡ source ++ drop (length source) (take (length out - w) (drop w out))
       → take w out ++ (part ++ drop (length out - w) (drop w out)) ≡ take w out ++ (source ++ drop (w + length source) out)
   copied source {part} room e =
       let size = length-drop w out in
       let all : take (length out - w) (drop w out) ≡ drop w out = take_all (length out - w) (drop w out) (omega arith) in
-      rw (e, take-length source, all, none_behind out w, append-nil (source ++ drop (length source) (drop w out)), drop-drop (length source) w out)
+      rw (e, all, none_behind out w, append-nil (source ++ drop (length source) (drop w out)), drop-drop (length source) w out)
 
 -- the first elements written anew
 pub overwritten : {A : Type 0} (front rest new : List A) → length new ≡ length front → sets (front ++ rest) 0 new ≡ new ++ rest
@@ -79,7 +79,7 @@ module _ {from to : ℕ} (f : Listed from) (t : Listed to) (card : List ℕ) (at
 -- ---- bodies, which are copied, and joints
 
 pub rows_written : (from to : Edition) (card : List ℕ) → ((i : ℕ) → get_or card i 0 < 256) → (at bodies joints : ℕ) (out : List ℕ) {copied new : List ℕ}
-    → at + 94 * bodies ≤ length card → 94 * bodies ≤ length out → let part = take (at + 94 * bodies - at) (drop at card) in copied ≡ take (length part) part ++ drop (length part) out
+    → at + 94 * bodies ≤ length card → 94 * bodies ≤ length out → let part = take (at + 94 * bodies - at) (drop at card) in copied ≡ part ++ drop (length part) out
     → new ≡ concat (map (record_bytes to.joint) (records_at from.joint card (8 * (at + 94 * bodies)) joints))
     → take (94 * bodies) copied ++ (new ++ drop (length copied - 94 * bodies) (drop (94 * bodies) copied)) ≡ rows_bytes from to card (8 * at) bodies joints
 unfolding rows_bytes
@@ -90,7 +90,7 @@ rows_written from to card small at bodies joints out {copied} {new} long room ec
     let part = take n (drop at card) in
     let size : length part ≡ n = rw (length-take, length-drop) (omega arith) in
     let place : 8 * at + 752 * bodies ≡ 8 * (at + n) = omega arith in
-    let front : take n copied ≡ part = rw (ec, some, size, take_all n part (omega arith)) (take_at part (drop n out) n size) in
+    let front : take n copied ≡ part = rw (ec, some, size) (take_at part (drop n out) n size) in
     rw (front, none_behind copied n, append-nil new, en, rows, place)
 
 -- ---- a card

@@ -115,13 +115,13 @@ small_joint l =
 
 module _ {from to : ℕ} (f : Listed from) (t : Listed to) (part : List ℕ) (small : (i : ℕ) → get_or part i 0 < 256) where
   pub joint_written : {w : ℕ} (out : List ℕ) {copied : List ℕ} {j : JointBits} → length part ≡ 123 → length out ≡ 123 → j ≡ joint_bits (numbers_at (edition_of from).joint part 0)
-      → w ≡ joint_start to j → copied ≡ take (length part) part ++ drop (length part) out
+      → w ≡ joint_start to j → copied ≡ part ++ drop (length part) out
       → set (set (set copied 0 (w / 65536 % 256)) 1 (w / 256 % 256)) 2 (w / 1 % 256) ≡ record_bytes (edition_of to).joint (numbers_at (edition_of from).joint part 0)
   unfolding bytes_of
   joint_written {w} out {copied} {j} long room ej ew e =
       let a = row from f in
       let b = row to t in
-      let same : copied ≡ part = e ∙ rw (take-length part, drop_of_length-le out {i = length part} (omega arith)) (append-nil part) in
+      let same : copied ≡ part = e ∙ rw (drop_of_length-le out {i = length part} (omega arith)) (append-nil part) in
       let rest : drop 3 part ≡ take 120 (drop 3 part) = sym (take_all 120 (drop 3 part) (rw (length-drop 3 part) (omega arith))) in
       let parts = joint_parts a b part small (omega arith) in
       rw (same, sets-eq (w / 65536 % 256 ∷ w / 256 % 256 ∷ w / 1 % 256 ∷ []) part 0 (omega arith), rest, ew, ej, a.listed, b.listed, parts)
@@ -133,7 +133,7 @@ module _ {from to : ℕ} (f : Listed from) (t : Listed to) (part : List ℕ) (sm
   pub header_written : (out : List ℕ) {d new : List ℕ} {h : HeaderBits} → length part ≡ (sizes_of from).header_bytes → length out ≡ (sizes_of to).header_bytes
       → h ≡ header_bits (numbers_at (edition_of from).header part 0)
       → let read = length part - 8 in let written = length out - 8 in let floats = take (length part - read) (drop read part) in
-      d ≡ take (length floats) floats ++ drop (length floats) (take (length out - written) (drop written out))
+      d ≡ floats ++ drop (length floats) (take (length out - written) (drop written out))
       → new ≡ sets (take written out ++ (d ++ drop (length out - written) (drop written out))) 0 (header_start to h)
       → new ≡ record_bytes (edition_of to).header (set (numbers_at (edition_of from).header part 0) 0 to)
   header_written out {d} {new} {h} long room eh ed en =

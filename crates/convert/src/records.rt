@@ -1,5 +1,5 @@
 // A card's records read by one edition and written by another. What the editions share keeps its bytes.
-ghost use Rattle.std.specs.Prelude.{◌≡◌, map, ◌+◌, ◌*◌, ◌≤◌, length, set};
+ghost use Rattle.std.specs.Prelude.{◌≡◌, map, ◌+◌, ◌*◌, ◌≤◌, ◌++◌, length, drop, set};
 ghost use Rattle.std.proofs.lemmas.List.Edits.{sets};
 ghost use Rattle.numbers.specs.Lists.{concat};
 ghost use Rattle.card.specs.Format.{numbers_at, records_at};
@@ -8,10 +8,17 @@ ghost use Rattle.card.specs.Parts.{Listed, sizes_of, card_with};
 ghost use Rattle.convert.specs.Convert.{record_bytes, card_bytes, with_edition};
 ghost use Rattle.convert.specs.Parts.{bit_of, SmallHeader, SmallJoint, header_start, joint_start, rows_bytes};
 
-use bytes::copy;
 use card::edition::sizes_of;
 use card::layout::{BODY_BYTES, GRAVITY, JOINT_BYTES};
 use card::records::{HeaderBits, JointBits, header_bits, joint_bits};
+
+// Into the first bytes of `to`; the others stay.
+fn copy(from: &[u8], to: &mut [u8])
+    requires { length from.now ≤ length to.old }
+    ensures { to.new ≡ from.now ++ drop (length from.now) to.old }
+{
+    to[..from.len()].copy_from_slice(from);
+}
 
 fn write_header_bits_1(h: HeaderBits, out: &mut [u8])
     requires { SmallHeader h × (4 ≤ length out.old) }

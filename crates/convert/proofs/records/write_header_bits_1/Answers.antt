@@ -10,23 +10,19 @@ use Rattle.convert.specs.Parts.{header_start}
 use lib.ListN.{length-set}
 use native.Mathlib.Omega.{arith}
 use borrow.Author.Rules.{rules}
-use Rattle.convert.proofs.records.write_header_bits_1.Statement.{statement}
-use Rattle.convert.proofs.records.write_header_bits_1.Tie as tie
+use Rattle.convert.proofs.records.write_header_bits_1.Goals as goal
 
 whole : (h : HeaderBits)
     → 0x0100_0000 + h.bodies * 0x0004_0000 + h.joints * 0x1000 + h.rate * 4 + h.zero ≡ packed (take 5 (edition_of 1).header) (1 ∷ h.bodies ∷ h.joints ∷ h.rate ∷ h.zero ∷ [])
 unfolding packed edition_of
 whole h = omega arith
 
-returns : tie.Need-returns
+pub returns : goal.returns
 unfolding header_start bytes_of sizes_of edition_of
 returns c = rw (whole c.before.before.before.before.args.h)
 
-pub write-header-bits-1-spec : {M : Type 1} → statement M
-write-header-bits-1-spec =
-    tie.close
-    (tie.spec
-    (λ c. search rules) (λ c. search rules) (λ c. search rules) (λ c. search rules) (λ c. search rules)
-    (λ c. search rules) (λ c. search rules) (λ c. search rules) (λ c. search rules) (λ c. search rules)
-    (λ c. search rules) (λ c. search rules) (λ c. simp length-set (omega arith)) (λ c. search rules)
-    (λ c. simp length-set (omega arith)) (λ c. search rules) (λ c. search rules) (λ c. search rules) returns)
+pub bounds-out-1 : goal.bounds-out-1
+bounds-out-1 c = simp length-set (omega arith)
+
+pub bounds-out-2 : goal.bounds-out-2
+bounds-out-2 c = simp length-set (omega arith)

@@ -9,8 +9,7 @@ use Rattle.convert.specs.Parts.{SmallHeader, header_start}
 use lib.ListN.{length-set}
 use native.Mathlib.Omega.{arith}
 use borrow.Author.Rules.{rules}
-use Rattle.convert.proofs.records.write_header_bits_2.Statement.{statement}
-use Rattle.convert.proofs.records.write_header_bits_2.Tie as tie
+use Rattle.convert.proofs.records.write_header_bits_2.Goals as goal
 
 module _ (h : HeaderBits) (s : SmallHeader h) where
   abbrev whole : ℕ
@@ -30,15 +29,26 @@ module _ (h : HeaderBits) (s : SmallHeader h) where
       let b7 : whole / 256 ^ 0 % 256 ≡ h.zero % 256 = omega arith in
       rw (b0, b1, b2, b3, b4, b5, b6, b7)
 
-returns : tie.Need-returns
+pub returns : goal.returns
 returns c = let a = c.before.before.before.before.before.before.before in rw (by_bytes a.args.h a.requires.0)
 
-pub write-header-bits-2-spec : {M : Type 1} → statement M
-write-header-bits-2-spec =
-    tie.close
-    (tie.spec
-    (λ c. search rules) (λ c. search rules) (λ c. simp length-set (omega arith)) (λ c. search rules)
-    (λ c. simp length-set (omega arith)) (λ c. search rules) (λ c. simp length-set (omega arith)) (λ c. search rules)
-    (λ c. simp length-set (omega arith)) (λ c. search rules) (λ c. simp length-set (omega arith)) (λ c. search rules)
-    (λ c. simp length-set (omega arith)) (λ c. search rules) (λ c. simp length-set (omega arith)) (λ c. search rules)
-    returns)
+pub bounds-out-1 : goal.bounds-out-1
+bounds-out-1 c = simp length-set (omega arith)
+
+pub bounds-out-2 : goal.bounds-out-2
+bounds-out-2 c = simp length-set (omega arith)
+
+pub bounds-out-3 : goal.bounds-out-3
+bounds-out-3 c = simp length-set (omega arith)
+
+pub bounds-out-4 : goal.bounds-out-4
+bounds-out-4 c = simp length-set (omega arith)
+
+pub bounds-out-5 : goal.bounds-out-5
+bounds-out-5 c = simp length-set (omega arith)
+
+pub bounds-out-6 : goal.bounds-out-6
+bounds-out-6 c = simp length-set (omega arith)
+
+pub bounds-out-7 : goal.bounds-out-7
+bounds-out-7 c = simp length-set (omega arith)

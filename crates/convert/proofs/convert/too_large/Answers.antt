@@ -1,0 +1,8 @@
+use Rattle.card.specs.Parts.{sizes_of}
+use Rattle.convert.specs.Parts.{too_large_in}
+use borrow.Author.Rules.{rules}
+use Rattle.convert.proofs.convert.too_large.Goals as goal
+
+pub returns : goal.returns
+unfolding too_large_in sizes_of
+returns c = rw c.before.before.before.before.before.before.sizes_of-s.ensures
