@@ -5,7 +5,7 @@ use native.Mathlib.Omega.{arith}
 use mathlib.Core.Path.{◌≡◌, refl, sym, ap, ◌∙◌}
 use mathlib.Core.List.{List, [], ◌∷◌, ◌++◌, map, map-append, append-nil, append_assoc}
 use lib.ListN.{length, get_or, set, take, drop, length-append, length-take, length-drop, drop_of_length-le}
-use lib.Seq.{sets, sets-eq, take_all, take-length, take_at, drop_at, drop-drop}
+use lib.Seq.{sets, sets-eq, take_all, take_at, drop_at, drop-drop}
 use Rattle.numbers.specs.Lists.{concat}
 use Rattle.numbers.proofs.Rows.{concat_last, pieces_length}
 use Rattle.card.specs.Format.{Cell, width_of, numbers_at, records_at}

@@ -6,10 +6,10 @@ use mathlib.Core.Path.{◌≡◌, refl, sym, ap, ◌∙◌}
 use mathlib.Core.List.{List, [], ◌∷◌, ◌++◌, append-nil}
 use lib.Dec.{eqb}
 use lib.ListN.{length, get_or, set, take, drop, length-take, length-drop, drop_of_length-le}
-use lib.Seq.{sets, length-take-le, take_all, take-length, sets-eq}
+use lib.Seq.{sets, length-take-le, take_all, sets-eq}
 use lib.Pow.{pow-add}
 use Rattle.card.specs.Format.{bits_at, Cell, width_of, numbers_at}
-use Rattle.card.specs.Card.{at, edition_of}
+use Rattle.card.specs.Card.{edition_of}
 use Rattle.card.specs.Parts.{Listed, sizes_of, header_bits, joint_bits}
 use Rattle.card.specs.declared.records.HeaderBits.{HeaderBits}
 use Rattle.card.specs.declared.records.JointBits.{JointBits}

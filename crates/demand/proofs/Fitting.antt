@@ -1,6 +1,5 @@
 -- The displacements of the solver's bodies are f32s at every place of a tick: zero at first, then products and sums.
 use Prim.Native.Nat.{ℕ, zero, suc}
-use mathlib.Core.Path.{subst}
 use mathlib.Core.Bool.{true, not}
 use mathlib.Core.List.{List, [], ◌∷◌, map}
 use lib.ListN.{length, get_or, set, replicate}

@@ -10,12 +10,9 @@ use lib.Dec.{T}
 use lib.Ieee.{Float, binary32, of_bits, of_fields, fits, le}
 use lib.Ieee.Bits.{of_bits-fits}
 use Rattle.scalar.specs.Arith.{f32, f0}
-use Rattle.vector.specs.declared.Vec3.{Vec3}
 use Rattle.vector.specs.declared.Quat.{Quat}
 use Rattle.joints.specs.declared.Joint.{Joint}
 use Rattle.joints.specs.declared.Joint.TheVariants.{Fixed, Revolute, Prismatic, Spherical, Distance}
-use Rattle.joints.specs.declared.AngleLimitOption.{AngleLimitOption}
-use Rattle.joints.specs.declared.AngleLimitOption.TheVariants.{Unlimited, Limited}
 use Rattle.solver_body.specs.Body.{dummy_inertia, unlocked, effective_inv_mass}
 use Rattle.solver_body.specs.declared.RigidBody.{RigidBody}
 use Rattle.solver_body.specs.declared.SolverBodyInertia.{SolverBodyInertia}
@@ -24,7 +21,7 @@ use Rattle.laws.proofs.Step.{step_held}
 use Rattle.xpbd_joints.specs.Steps.{steps_of}
 use Rattle.stages.proofs.Choice.{either}
 use Rattle.stages.proofs.Vec.{Held3}
-use Rattle.stages.proofs.Sound.{SettingOk, StepOk, All, all_append}
+use Rattle.stages.proofs.Sound.{SettingOk, StepOk, All}
 use Rattle.card.specs.Format.{Cell, width_of, numbers_at, records_at}
 use Rattle.card.specs.Card.{at, flag, body, joint, edition_at, Card, card_of}
 use Rattle.card.specs.Checks.{check_of}

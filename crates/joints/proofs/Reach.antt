@@ -1,8 +1,7 @@
 -- A limit within reach turns within reach.
 use mathlib.Core.Path.{◌≡◌, refl, sym, ap, ◌∙◌, subst}
-use mathlib.Core.Bool.{Bool, true, false, not, ◌||◌, cond}
+use mathlib.Core.Bool.{Bool, true, false, ◌||◌, cond}
 use Prim.Native.Nat.{ℕ, ◌*◌, ◌≤◌, ◌<◌}
-use native.Mathlib.Nat.{mul-pos}
 use native.Mathlib.Omega.{arith}
 use lib.Dec.{T}
 use lib.IntN.{pos}
@@ -15,7 +14,7 @@ use Rattle.scalar.specs.Arith.{◌⊗◌, f7, half}
 use Rattle.scalar.specs.Scalar.{abs_of, min_of, max_of, clamp_of}
 use Rattle.scalar.proofs.Sizes.{abs_round, le→values}
 use Rattle.trig.specs.Sine.{sixteen, sin_of, cos_of}
-use Rattle.vector.specs.Rotation.{of_half, of_axis_angle, of_angle_in_reach}
+use Rattle.vector.specs.Rotation.{of_axis_angle, of_angle_in_reach}
 use Rattle.vector.specs.declared.Vec3.{Vec3}
 use Rattle.joints.specs.declared.AngleLimit.{AngleLimit}
 use Rattle.joints.specs.declared.AngleLimitOption.{AngleLimitOption}

@@ -15,7 +15,7 @@ use Rattle.numbers.proofs.Rows.{concat_last, pieces_length}
 use Rattle.numbers.proofs.Writes.{next_piece, drop-replicate}
 use Rattle.card.specs.Format.{bits_at, numbers_at, records_at}
 use Rattle.card.specs.Card.{body, edition_of, edition_at, Card, card_of}
-use Rattle.card.specs.Checks.{Refusal, refuse, first_of, card_checks, check_of}
+use Rattle.card.specs.Checks.{Refusal, first_of, card_checks, check_of}
 use Rattle.card.specs.Parts.{Listed, card_with, header_bits}
 use Rattle.card.specs.Parts as parts
 use Rattle.card.specs.declared.edition.EditionSizes.{EditionSizes}
@@ -26,7 +26,7 @@ use Rattle.card.proofs.Editions.{header_width, card_is}
 use Rattle.card.proofs.Accepted.{at_most_200}
 use Rattle.loader.proofs.Accepted.{known, enough}
 use Rattle.loader.specs.Linkage.{start_body}
-use Rattle.state.specs.State.{body_numbers, joint_numbers, state_length, numbers_of, totals_numbers, start_state, bad_numbers, start_checks, answered, start_of, sized, sizes_of}
+use Rattle.state.specs.State.{body_numbers, joint_numbers, state_length, numbers_of, totals_numbers, start_state, start_checks, answered, start_of, sized, sizes_of}
 use Rattle.state.specs.Parts.{length_check, start_numbers, start_in}
 use Rattle.state.proofs.Answers.{unless_passed, unless_refused_lem, unless_later}
 

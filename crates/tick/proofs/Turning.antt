@@ -15,7 +15,7 @@ use Rattle.numbers.specs.Lists.{concat, each}
 use Rattle.numbers.proofs.Rows.{each_length, each_at, each_same, map_each, concat_last, pieces_length, piece_at}
 use Rattle.card.specs.Card.{flag}
 use Rattle.loader.specs.Linkage.{Linkage, body_of, body_in}
-use Rattle.loader.specs.Parts.{part, body_part_words, body_part_floats, joint_part_floats, turned_floats, body_at, joint_at, linkage_in, Loaded}
+use Rattle.loader.specs.Parts.{body_part_words, body_part_floats, joint_part_floats, turned_floats, body_at, joint_at, linkage_in, Loaded}
 use Rattle.loader.specs.declared.header.Header.{Header}
 use Rattle.loader.proofs.Parts.{part_length, part_at}
 use Rattle.loader.proofs.Linkage.{bodies_length, body_is}

@@ -1,7 +1,6 @@
-use Prim.Native.Nat.{◌≤◌, ◌-◌}
 use native.Mathlib.Omega.{arith}
-use mathlib.Core.Path.{◌≡◌, refl}
-use lib.ListN.{length, take, replicate, length-set}
+use mathlib.Core.Path.{refl}
+use lib.ListN.{length-set}
 use Rattle.scalar.specs.Arith.{f0}
 use Rattle.numbers.proofs.Writes.{filled, filled_all}
 use Rattle.numbers.proofs.clear.Goals as goal

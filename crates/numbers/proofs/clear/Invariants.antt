@@ -1,9 +1,7 @@
 use Prim.Native.Nat.{◌≤◌, ◌-◌}
-use native.Mathlib.Omega.{arith}
-use mathlib.Core.Path.{◌≡◌, refl}
-use lib.ListN.{length, take, replicate, length-set}
+use mathlib.Core.Path.{◌≡◌}
+use lib.ListN.{length, take, replicate}
 use Rattle.scalar.specs.Arith.{f0}
-use Rattle.numbers.proofs.Writes.{filled, filled_all}
 use Rattle.numbers.proofs.clear.Given as goal
 
 abbrev pub invariant-loop-n : goal.invariant-loop-n

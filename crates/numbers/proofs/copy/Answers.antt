@@ -1,8 +1,7 @@
-use Prim.Native.Nat.{◌-◌, ◌≤◌}
 use native.Mathlib.Omega.{arith}
-use mathlib.Core.Path.{◌≡◌, refl}
+use mathlib.Core.Path.{refl}
 use lib.Ieee.{nan}
-use lib.ListN.{length, take, length-set}
+use lib.ListN.{length-set}
 use Rattle.numbers.proofs.Loops.{copy_more, copy_done}
 use Rattle.numbers.proofs.copy.Goals as goal
 

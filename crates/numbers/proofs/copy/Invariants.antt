@@ -1,9 +1,6 @@
 use Prim.Native.Nat.{◌-◌, ◌≤◌}
-use native.Mathlib.Omega.{arith}
-use mathlib.Core.Path.{◌≡◌, refl}
-use lib.Ieee.{nan}
-use lib.ListN.{length, take, length-set}
-use Rattle.numbers.proofs.Loops.{copy_more, copy_done}
+use mathlib.Core.Path.{◌≡◌}
+use lib.ListN.{length, take}
 use Rattle.numbers.proofs.copy.Given as goal
 
 abbrev pub invariant-loop-n : goal.invariant-loop-n

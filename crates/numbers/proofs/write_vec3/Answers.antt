@@ -1,5 +1,4 @@
 use native.Mathlib.Omega.{arith}
-use borrow.Author.Rules.{rules}
 use lib.ListN.{length-set}
 use Rattle.numbers.proofs.Writes.{three}
 use Rattle.numbers.proofs.write_vec3.Goals as goal

@@ -1,6 +1,5 @@
 -- The place of the number's parts in the table (`Starts.antt`).
 use mathlib.Core.Path.{◌∙◌}
-use borrow.Author.Rules.{rules}
 use Rattle.root.proofs.Starts.{value_at}
 use Rattle.root.proofs.curve_of.Goals as goal
 

@@ -1,6 +1,5 @@
 -- The invariant: a is below the square of r + 1, which with the test that fails at the exit is the contract, and r is at most 2 ^ 26, which keeps every step within 64 bits.
 -- The measure is r: a step from a guess whose square is above a gives a smaller guess (`Newton.antt`).
-use Prim.Native.Nat.{◌+◌, ◌*◌, ◌≤◌, ◌<◌}
 use native.Mathlib.Nat.{le_trans, le_of_lt, div-le_self}
 use native.Mathlib.Omega.{arith}
 use borrow.Author.Rules.{rules}

@@ -1,5 +1,5 @@
 -- Below 2^-6, or by the table.
-use Rattle.std.proofs.Common.{ap, ◌∙◌, rules}
+use Rattle.std.proofs.Common.{ap, ◌∙◌}
 use Rattle.trig.specs.Interpolation.{over_unit}
 use Rattle.trig.specs.Arctangent.{atan_of, atan_at, atan_small}
 use Rattle.trig.proofs.ScaledFloor.{one_sixteen}

@@ -1,5 +1,5 @@
 -- A fraction over 2^14 is four times it over 2^16.
-use Rattle.std.proofs.Common.{◌≡◌, ℕ, ◌+◌, ◌*◌, ◌/◌, ◌%◌, ◌<◌, ◌≤◌, get_or, pos, sym, ap, ◌∙◌, le_of_lt, mod-lt, arith, lit<, rules, le-ltb, lt-ltb}
+use Rattle.std.proofs.Common.{◌≡◌, ℕ, ◌+◌, ◌*◌, ◌/◌, ◌%◌, ◌<◌, ◌≤◌, get_or, pos, sym, ap, ◌∙◌, le_of_lt, mod-lt, arith, lit<, le-ltb, lt-ltb}
 use Rattle.series.specs.Tables.{arcs}
 use Rattle.trig.specs.Interpolation.{interpolated}
 use Rattle.trig.specs.Arctangent.{atan_at}

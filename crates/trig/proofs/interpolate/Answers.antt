@@ -1,5 +1,5 @@
 -- Up or down, on sizes.
-use Rattle.std.proofs.Common.{◌≡◌, ℕ, ◌-◌, ◌*◌, ◌<◌, ◌≤◌, pos, sym, ap, ◌∙◌, subst, le_of_lt, mul-le-mul, arith, lit<, rules, le-leb}
+use Rattle.std.proofs.Common.{◌≡◌, ℕ, ◌-◌, ◌*◌, ◌<◌, ◌≤◌, pos, sym, ap, ◌∙◌, subst, le_of_lt, mul-le-mul, arith, lit<, le-leb}
 use borrow.Author.Tests.{lt-leb}
 use Rattle.trig.specs.Interpolation.{interpolated}
 use Rattle.trig.proofs.InterpolatedSizes.{line_size, line_size_lem, line_small, part}

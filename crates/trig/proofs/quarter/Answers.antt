@@ -1,5 +1,5 @@
 -- The four numbers are the table's.
-use Rattle.std.proofs.Common.{◌+◌, ◌-◌, arith, rules}
+use Rattle.std.proofs.Common.{◌+◌, ◌-◌, arith}
 use Rattle.trig.proofs.CarriedTable.{sine_small}
 use Rattle.trig.proofs.quarter.Goals as goal
 

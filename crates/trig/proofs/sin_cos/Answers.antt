@@ -1,5 +1,5 @@
 -- Within reach, or a NaN.
-use Rattle.std.proofs.Common.{◌≡◌, Bool, true, false, T, sym, ap, ◌∙◌, subst, rules}
+use Rattle.std.proofs.Common.{◌≡◌, Bool, true, false, T, sym, ap, ◌∙◌, subst}
 use lib.Ieee.{Float, le}
 use Rattle.laws.proofs.Quotient.{zero_over_zero}
 use Rattle.scalar.specs.Scalar.{abs_of}

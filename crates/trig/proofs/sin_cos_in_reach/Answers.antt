@@ -1,5 +1,5 @@
 -- Below 2^-6, or by the table with either sign.
-use Rattle.std.proofs.Common.{◌≡◌, ℕ, ◌+◌, ◌*◌, ◌/◌, Bool, true, false, T, sym, ap, ◌∙◌, subst, rules}
+use Rattle.std.proofs.Common.{◌≡◌, ℕ, ◌+◌, ◌*◌, ◌/◌, Bool, true, false, T, sym, ap, ◌∙◌, subst}
 use lib.Ieee.{Float, neg, lt, le}
 use Rattle.scalar.specs.Arith.{if◌then◌else◌, f0}
 use Rattle.scalar.specs.Scalar.{abs_of}

@@ -1,5 +1,5 @@
 -- Quadrant by quadrant.
-use Rattle.std.proofs.Common.{◌%◌, sym, ◌∙◌, arith, rules}
+use Rattle.std.proofs.Common.{◌%◌, sym, ◌∙◌, arith}
 use Rattle.trig.specs.Sine.{step_of}
 use Rattle.trig.proofs.CarriedTable.{turn_0, turn_1, turn_2, turn_3}
 use Rattle.trig.proofs.table_sin_cos.Goals as goal

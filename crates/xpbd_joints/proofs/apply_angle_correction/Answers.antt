@@ -1,4 +1,3 @@
-use borrow.Author.Rules.{rules}
 use Rattle.xpbd_joints.specs.Solved.{limit_stage}
 use Rattle.xpbd_joints.proofs.apply_angle_correction.Goals as goal
 

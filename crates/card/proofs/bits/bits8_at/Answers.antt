@@ -1,4 +1,3 @@
-use borrow.Author.Rules.{rules}
 use Rattle.card.proofs.Packed as packed
 use Rattle.card.proofs.bits.bits8_at.Goals as goal
 

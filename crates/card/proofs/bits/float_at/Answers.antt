@@ -1,4 +1,3 @@
-use borrow.Author.Rules.{rules}
 use Rattle.card.specs.Parts.{float_at}
 use Rattle.card.proofs.bits.float_at.Goals as goal
 

@@ -2,7 +2,6 @@ use lib.Ieee.{binary32, nan_bits}
 use Rattle.card.proofs.Bools.{failed}
 use Rattle.laws.proofs.Quotient.{zero_over_zero}
 use Rattle.card.proofs.Floats.{nan_of}
-use borrow.Author.Rules.{rules}
 use Rattle.card.proofs.bits.float_of.Goals as goal
 
 pub returns-then-nan_bits : goal.returns-then-nan_bits

@@ -1,4 +1,3 @@
-use borrow.Author.Rules.{rules}
 use Rattle.card.specs.Parts.{quat_at}
 use Rattle.card.proofs.bits.quat_at.Goals as goal
 

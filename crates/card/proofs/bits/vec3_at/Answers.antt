@@ -1,4 +1,3 @@
-use borrow.Author.Rules.{rules}
 use Rattle.card.specs.Parts.{vec3_at}
 use Rattle.card.proofs.bits.vec3_at.Goals as goal
 

@@ -1,14 +1,9 @@
-use Prim.Native.Nat.{◌+◌, ◌*◌, ◌-◌, ◌≤◌}
+use Prim.Native.Nat.{◌+◌, ◌-◌}
 use native.Mathlib.Omega.{arith}
 use mathlib.Core.Path.{refl, ◌∙◌}
-use lib.ListN.{length}
-use Rattle.card.specs.Format.{records_at}
-use Rattle.card.specs.Card.{body, edition_of}
-use Rattle.card.specs.Checks.{any}
-use Rattle.card.specs.Parts.{pair_of}
 use Rattle.card.proofs.Cut.{part_length}
 use Rattle.card.proofs.Editions.{joint_width}
-use Rattle.card.proofs.Pairs.{Left, found, next, ended, pair_of_lem}
+use Rattle.card.proofs.Pairs.{found, next, ended, pair_of_lem}
 use Rattle.card.proofs.checks.any_pair_fault.Goals as goal
 
 pub loop-left-init : goal.loop-left-init

@@ -1,10 +1,9 @@
-use Prim.Native.Nat.{◌+◌, ◌*◌, ◌≤◌, ◌-◌}
+use Prim.Native.Nat.{◌+◌, ◌*◌}
 use native.Mathlib.Omega.{arith}
 use mathlib.Core.Path.{◌≡◌, sym, ap, ◌∙◌}
-use mathlib.Core.Bool.{false}
 use borrow.Author.Tests.{eq-eqb, ne_eqb}
 use Rattle.card.specs.Format.{bits_at}
-use Rattle.card.specs.Parts.{any_to, word_at, set_at}
+use Rattle.card.specs.Parts.{word_at, set_at}
 use Rattle.card.proofs.Loops.{any_none, any_more, any_done, any_some}
 use Rattle.card.proofs.checks.any_set.Goals.{After-bits32_at}
 use Rattle.card.proofs.checks.any_set.Goals as goal

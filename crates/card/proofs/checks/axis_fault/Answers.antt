@@ -1,4 +1,3 @@
-use borrow.Author.Rules.{rules}
 use Rattle.card.proofs.checks.axis_fault.Goals as goal
 
 pub returns : goal.returns

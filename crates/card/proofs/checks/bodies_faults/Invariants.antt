@@ -1,13 +1,9 @@
-use Prim.Native.Nat.{◌+◌, ◌*◌, ◌-◌, ◌≤◌}
-use native.Mathlib.Omega.{arith}
-use mathlib.Core.Path.{refl}
+use Prim.Native.Nat.{◌+◌, ◌*◌, ◌≤◌}
 use lib.ListN.{length}
-use borrow.Author.Rules.{rules}
 use Rattle.card.specs.Format.{records_at}
 use Rattle.card.specs.Card.{body}
 use Rattle.card.specs.Parts.{body_faults, faults_of}
-use Rattle.card.proofs.Cut.{part_length}
-use Rattle.card.proofs.Faulty.{none_yet, Still, turn, done}
+use Rattle.card.proofs.Faulty.{Still}
 use Rattle.card.proofs.checks.bodies_faults.Given as goal
 
 abbrev pub invariant-loop-left : goal.invariant-loop-left

@@ -1,4 +1,3 @@
-use borrow.Author.Rules.{rules}
 use native.Mathlib.Omega.{arith}
 use Rattle.card.proofs.RecordFaults.{body_is}
 use Rattle.card.proofs.checks.body_faults.Goals as goal

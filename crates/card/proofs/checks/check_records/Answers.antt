@@ -3,7 +3,6 @@ use native.Mathlib.Omega.{arith}
 use mathlib.Core.Path.{◌≡◌}
 use mathlib.Core.Bool.{false, ◌||◌}
 use lib.ListN.{length}
-use borrow.Author.Rules.{rules}
 use Rattle.card.specs.declared.checks.Faults.{Faults}
 use Rattle.card.specs.Format.{width_of}
 use Rattle.card.specs.Card.{edition_of}

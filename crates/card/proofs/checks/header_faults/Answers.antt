@@ -1,7 +1,6 @@
 use Prim.Native.Nat.{◌≤◌}
 use native.Mathlib.Omega.{arith}
 use lib.ListN.{length}
-use borrow.Author.Rules.{rules}
 use Rattle.card.proofs.Editions.{header_of, header_bytes_lem}
 use Rattle.card.proofs.RecordFaults.{header_are}
 use Rattle.card.proofs.checks.header_faults.Goals.{After-sizes_of-end}

@@ -1,4 +1,3 @@
-use borrow.Author.Rules.{rules}
 use native.Mathlib.Omega.{arith}
 use Rattle.card.proofs.Editions.{joint_of_lem}
 use Rattle.card.proofs.RecordFaults.{joint_are}

@@ -1,13 +1,8 @@
-use Prim.Native.Nat.{◌+◌, ◌*◌, ◌-◌, ◌≤◌}
+use Prim.Native.Nat.{◌+◌, ◌-◌}
 use native.Mathlib.Omega.{arith}
-use lib.ListN.{length}
-use borrow.Author.Rules.{rules}
-use Rattle.card.specs.Format.{records_at}
-use Rattle.card.specs.Card.{edition_of}
-use Rattle.card.specs.Parts.{joint_faults, faults_of}
 use Rattle.card.proofs.Cut.{part_length}
 use Rattle.card.proofs.Editions.{joint_width}
-use Rattle.card.proofs.Faulty.{none_yet, Still, turn, done}
+use Rattle.card.proofs.Faulty.{none_yet, turn, done}
 use Rattle.card.proofs.checks.joints_faults.Goals as goal
 
 pub loop-left-init : goal.loop-left-init

@@ -1,13 +1,9 @@
-use Prim.Native.Nat.{◌+◌, ◌*◌, ◌-◌, ◌≤◌}
-use native.Mathlib.Omega.{arith}
+use Prim.Native.Nat.{◌+◌, ◌*◌, ◌≤◌}
 use lib.ListN.{length}
-use borrow.Author.Rules.{rules}
 use Rattle.card.specs.Format.{records_at}
 use Rattle.card.specs.Card.{edition_of}
 use Rattle.card.specs.Parts.{joint_faults, faults_of}
-use Rattle.card.proofs.Cut.{part_length}
-use Rattle.card.proofs.Editions.{joint_width}
-use Rattle.card.proofs.Faulty.{none_yet, Still, turn, done}
+use Rattle.card.proofs.Faulty.{Still}
 use Rattle.card.proofs.checks.joints_faults.Given as goal
 
 abbrev pub invariant-loop-left : goal.invariant-loop-left

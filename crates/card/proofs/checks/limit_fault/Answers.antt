@@ -1,4 +1,3 @@
-use borrow.Author.Rules.{rules}
 use Rattle.card.specs.Parts.{limit_at}
 use Rattle.card.proofs.checks.limit_fault.Goals as goal
 

@@ -1,4 +1,3 @@
-use borrow.Author.Rules.{rules}
 use Rattle.card.specs.Parts.{norms_at}
 use Rattle.card.proofs.checks.norms_fault.Goals as goal
 

@@ -1,4 +1,3 @@
-use borrow.Author.Rules.{rules}
 use Rattle.card.specs.Checks.{off_unit}
 use Rattle.card.proofs.checks.off_unit.Goals as goal
 

@@ -1,6 +1,5 @@
 use Prim.Native.Nat.{◌+◌, ◌*◌, ◌-◌}
 use native.Mathlib.Omega.{arith}
-use borrow.Author.Rules.{rules}
 use borrow.Author.Tests.{eq-eqb, le-leb, lt-leb, ne_eqb}
 use Rattle.card.proofs.Cut.{part_length, records_length}
 use Rattle.card.proofs.Pairs.{anchored_at}

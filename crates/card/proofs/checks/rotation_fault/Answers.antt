@@ -1,4 +1,3 @@
-use borrow.Author.Rules.{rules}
 use Rattle.card.proofs.checks.rotation_fault.Goals as goal
 
 pub returns : goal.returns

@@ -1,4 +1,3 @@
-use borrow.Author.Rules.{rules}
 use Rattle.card.specs.Parts.{wide_at}
 use Rattle.card.proofs.checks.wide_fault.Goals as goal
 

@@ -1,5 +1,4 @@
 use native.Mathlib.Omega.{arith}
-use borrow.Author.Rules.{rules}
 use Rattle.card.specs.Card.{kinds, kind_at, no_kind}
 use Rattle.card.specs.Parts.{kind_for}
 use lib.ListN.{get_or-eq_default}

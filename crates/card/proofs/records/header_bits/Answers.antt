@@ -1,4 +1,3 @@
-use borrow.Author.Rules.{rules}
 use Rattle.card.proofs.Editions.{second}
 use Rattle.card.proofs.records.header_bits.Goals as goal
 

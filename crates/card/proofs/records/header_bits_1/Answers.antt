@@ -1,4 +1,3 @@
-use borrow.Author.Rules.{rules}
 use Rattle.card.proofs.Packed as packed
 use Rattle.card.specs.Format.{numbers_at}
 use Rattle.card.specs.Card.{edition_of}

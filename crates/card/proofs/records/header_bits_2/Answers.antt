@@ -1,4 +1,3 @@
-use borrow.Author.Rules.{rules}
 use Rattle.card.specs.Format.{numbers_at}
 use Rattle.card.specs.Card.{edition_of}
 use Rattle.card.specs.Parts.{header_bits}

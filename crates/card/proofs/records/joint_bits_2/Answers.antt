@@ -1,5 +1,4 @@
 use mathlib.Core.Path.{refl}
-use borrow.Author.Rules.{rules}
 use Rattle.card.specs.Card.{edition_of}
 use Rattle.card.proofs.Editions.{joint_word}
 use Rattle.card.proofs.records.joint_bits_2.Goals as goal

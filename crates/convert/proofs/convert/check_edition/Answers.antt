@@ -1,6 +1,5 @@
 use mathlib.Core.Path.{sym, ◌∙◌}
 use Rattle.convert.proofs.Answers.{short_refused, edition_refused, own_answer}
-use borrow.Author.Rules.{rules}
 use Rattle.convert.proofs.convert.check_edition.Goals as goal
 
 pub returns-then-card-lt-LEAST_BYTES : goal.returns-then-card-lt-LEAST_BYTES

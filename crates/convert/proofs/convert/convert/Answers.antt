@@ -2,7 +2,6 @@ use mathlib.Core.Path.{◌≡◌, sym, ◌∙◌}
 use Rattle.card.specs.Checks.{first_of}
 use Rattle.convert.specs.Convert.{own_checks}
 use Rattle.convert.proofs.Answers.{own_passed, by_16, own_refused}
-use borrow.Author.Rules.{rules}
 use Rattle.convert.proofs.convert.convert.Goals.{Then-number-eq0}
 use Rattle.convert.proofs.convert.convert.Goals as goal
 

@@ -2,7 +2,6 @@ use native.Mathlib.Omega.{arith}
 use Rattle.card.proofs.Editions.{header_bytes_lem}
 use Rattle.convert.specs.Parts.{length_in}
 use Rattle.convert.proofs.Pieces.{header_size}
-use borrow.Author.Rules.{rules}
 use Rattle.convert.proofs.convert.length_in.Goals as goal
 
 pub overflow_add-result : goal.overflow_add-result

@@ -1,6 +1,5 @@
 use Rattle.card.specs.Parts.{sizes_of}
 use Rattle.convert.specs.Parts.{too_large_in}
-use borrow.Author.Rules.{rules}
 use Rattle.convert.proofs.convert.too_large.Goals as goal
 
 pub returns : goal.returns

@@ -4,7 +4,6 @@ use mathlib.Core.Path.{◌≡◌, refl}
 use mathlib.Core.Bool.{Bool, true, false}
 use mir.Val.{bool_byte}
 use Rattle.convert.specs.Parts.{bit_of}
-use borrow.Author.Rules.{rules}
 use Rattle.convert.proofs.records.bit.Goals as goal
 
 as_number : (b : Bool) → (bool_byte b ≡ bit_of b) × (bool_byte b ≤ 1)

@@ -1,5 +1,4 @@
 use Rattle.card.proofs.Editions.{second}
-use borrow.Author.Rules.{rules}
 use Rattle.convert.proofs.records.joint_bits_in.Goals as goal
 
 pub returns-then-edition-eq1 : goal.returns-then-edition-eq1

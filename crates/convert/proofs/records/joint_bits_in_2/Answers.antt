@@ -2,7 +2,6 @@ use native.Mathlib.Omega.{arith}
 use Rattle.card.specs.Card.{edition_of}
 use Rattle.convert.specs.Convert.{packed}
 use Rattle.convert.specs.Parts.{joint_start}
-use borrow.Author.Rules.{rules}
 use Rattle.convert.proofs.records.joint_bits_in_2.Goals as goal
 
 pub returns : goal.returns

@@ -3,7 +3,6 @@ use mathlib.Core.Path.{sym, ◌∙◌}
 use lib.ListN.{length-take, length-drop}
 use lib.Seq.{length-take-le}
 use Rattle.convert.proofs.Pieces.{header_size, card_written}
-use borrow.Author.Rules.{rules}
 use Rattle.convert.proofs.records.write_card.Goals as goal
 
 pub slice_bounds-write_header-end : goal.slice_bounds-write_header-end

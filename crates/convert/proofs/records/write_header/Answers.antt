@@ -2,7 +2,6 @@ use native.Mathlib.Omega.{arith}
 use lib.ListN.{length-take, length-drop}
 use Rattle.card.proofs.Editions.{header_bytes_lem}
 use Rattle.convert.proofs.Starts.{small_header, header_written}
-use borrow.Author.Rules.{rules}
 use Rattle.convert.proofs.records.write_header.Goals as goal
 
 pub header_bits-h-requires : goal.header_bits-h-requires

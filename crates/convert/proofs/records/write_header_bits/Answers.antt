@@ -1,5 +1,4 @@
 use Rattle.card.proofs.Editions.{second}
-use borrow.Author.Rules.{rules}
 use Rattle.convert.proofs.records.write_header_bits.Goals as goal
 
 pub returns-then-edition-eq1 : goal.returns-then-edition-eq1

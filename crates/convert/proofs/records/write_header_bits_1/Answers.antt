@@ -9,7 +9,6 @@ use Rattle.convert.specs.Convert.{packed, bytes_of}
 use Rattle.convert.specs.Parts.{header_start}
 use lib.ListN.{length-set}
 use native.Mathlib.Omega.{arith}
-use borrow.Author.Rules.{rules}
 use Rattle.convert.proofs.records.write_header_bits_1.Goals as goal
 
 whole : (h : HeaderBits)

@@ -8,7 +8,6 @@ use Rattle.convert.specs.Convert.{packed, bytes_of}
 use Rattle.convert.specs.Parts.{SmallHeader, header_start}
 use lib.ListN.{length-set}
 use native.Mathlib.Omega.{arith}
-use borrow.Author.Rules.{rules}
 use Rattle.convert.proofs.records.write_header_bits_2.Goals as goal
 
 module _ (h : HeaderBits) (s : SmallHeader h) where

@@ -1,7 +1,6 @@
 use Rattle.convert.proofs.Starts.{small_joint, joint_written}
 use lib.ListN.{length-set}
 use native.Mathlib.Omega.{arith}
-use borrow.Author.Rules.{rules}
 use Rattle.convert.proofs.records.write_joint.Goals as goal
 
 pub joint_bits_in-b-requires : goal.joint_bits_in-b-requires

@@ -1,9 +1,8 @@
-use Prim.Native.Nat.{◌+◌, ◌*◌, ◌-◌, ◌≤◌}
+use Prim.Native.Nat.{◌+◌, ◌*◌, ◌-◌}
 use native.Mathlib.Omega.{arith}
-use mathlib.Core.Path.{◌≡◌, refl, ◌∙◌}
-use mathlib.Core.List.{◌++◌}
-use lib.ListN.{length, drop, length-take, length-drop}
-use Rattle.convert.proofs.Pieces.{joints_made, none_made, next_made, all_made}
+use mathlib.Core.Path.{refl, ◌∙◌}
+use lib.ListN.{length-take, length-drop}
+use Rattle.convert.proofs.Pieces.{none_made, next_made, all_made}
 use Rattle.convert.proofs.records.write_joints.Goals as goal
 
 pub loop-i-init : goal.loop-i-init

@@ -1,9 +1,8 @@
-use Prim.Native.Nat.{◌+◌, ◌*◌, ◌-◌, ◌≤◌}
-use native.Mathlib.Omega.{arith}
-use mathlib.Core.Path.{◌≡◌, refl, ◌∙◌}
+use Prim.Native.Nat.{◌*◌, ◌-◌, ◌≤◌}
+use mathlib.Core.Path.{◌≡◌}
 use mathlib.Core.List.{◌++◌}
-use lib.ListN.{length, drop, length-take, length-drop}
-use Rattle.convert.proofs.Pieces.{joints_made, none_made, next_made, all_made}
+use lib.ListN.{length, drop}
+use Rattle.convert.proofs.Pieces.{joints_made}
 use Rattle.convert.proofs.records.write_joints.Given as goal
 
 abbrev pub invariant-loop-i : goal.invariant-loop-i

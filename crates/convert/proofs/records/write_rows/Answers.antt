@@ -1,7 +1,6 @@
 use Rattle.card.specs.Card.{edition_of}
 use native.Mathlib.Omega.{arith}
 use Rattle.convert.proofs.Pieces.{rows_written}
-use borrow.Author.Rules.{rules}
 use Rattle.convert.proofs.records.write_rows.Goals as goal
 
 pub returns : goal.returns

@@ -1,7 +1,7 @@
 use mathlib.Core.Path.{◌≡◌, sym, subst}
-use mathlib.Core.Bool.{true, ◌||◌}
+use mathlib.Core.Bool.{true}
 use lib.Dec.{T}
-use lib.Ieee.{Float, lt, le}
+use lib.Ieee.{Float, le}
 use Rattle.scalar.specs.Arith.{◌⊗◌, half}
 use Rattle.scalar.specs.Scalar.{abs_of}
 use Rattle.trig.specs.Sine.{sixteen}

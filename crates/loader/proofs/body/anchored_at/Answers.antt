@@ -5,7 +5,6 @@ use Rattle.loader.proofs.Parts.{place}
 use native.Mathlib.Omega.{arith}
 use Rattle.loader.specs.Linkage.{body_in}
 use Rattle.loader.specs.Parts.{body_at}
-use borrow.Author.Rules.{rules}
 use Rattle.loader.proofs.body.anchored_at.Goals as goal
 
 pub returns : goal.returns

@@ -2,7 +2,6 @@ use Prim.Native.Nat.{◌*◌}
 use native.Mathlib.Omega.{arith}
 use Rattle.loader.specs.Parts.{body_at}
 use Rattle.loader.proofs.Parts.{part_length, cut}
-use borrow.Author.Rules.{rules}
 use Rattle.loader.proofs.body.body_at.Goals as goal
 
 pub body_in-requires : goal.body_in-requires

@@ -1,5 +1,4 @@
 use Rattle.loader.specs.Linkage.{body_in}
-use borrow.Author.Rules.{rules}
 use Rattle.loader.proofs.body.body_in.Goals as goal
 
 pub returns : goal.returns

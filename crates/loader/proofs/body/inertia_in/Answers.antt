@@ -1,6 +1,5 @@
 use borrow.Author.Tests.{eq-eqb, ne_eqb}
 use Rattle.loader.specs.Linkage.{body_in}
-use borrow.Author.Rules.{rules}
 use Rattle.loader.proofs.body.inertia_in.Goals as goal
 
 pub returns-then-words-eq1 : goal.returns-then-words-eq1

@@ -3,7 +3,6 @@ use mathlib.Core.Path.{ap, ◌∙◌}
 use lib.ListN.{length-set}
 use Rattle.vector.specs.Matrix.{turned_tensor}
 use Rattle.loader.proofs.Records.{body_turned}
-use borrow.Author.Rules.{rules}
 use Rattle.loader.proofs.body.turn_in.Goals as goal
 
 pub shape_of-turned : goal.shape_of-turned

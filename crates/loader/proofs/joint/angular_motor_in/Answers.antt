@@ -1,5 +1,4 @@
 use Rattle.loader.specs.Linkage.{angular_motor_in}
-use borrow.Author.Rules.{rules}
 use Rattle.loader.proofs.joint.angular_motor_in.Goals as goal
 
 pub returns : goal.returns

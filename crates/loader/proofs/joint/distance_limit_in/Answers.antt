@@ -1,4 +1,3 @@
-use borrow.Author.Rules.{rules}
 use Rattle.loader.proofs.joint.distance_limit_in.Goals as goal
 
 pub returns-then-limited : goal.returns-then-limited

@@ -2,7 +2,6 @@ use native.Mathlib.Omega.{arith}
 use Prim.Native.Nat.{◌+◌, ◌*◌}
 use Rattle.loader.specs.Parts.{joint_at}
 use Rattle.loader.proofs.Parts.{place}
-use borrow.Author.Rules.{rules}
 use Rattle.loader.proofs.joint.first_body.Goals as goal
 
 pub overflow_cast-result : goal.overflow_cast-result

@@ -4,7 +4,6 @@ use mathlib.Core.Bool.{not}
 use mathlib.Core.Path.{ap}
 use lib.Dec.{eqb}
 use Rattle.loader.proofs.Parts.{place}
-use borrow.Author.Rules.{rules}
 use Rattle.loader.proofs.joint.has_motor.Goals as goal
 
 pub returns : goal.returns

@@ -2,7 +2,6 @@ use Prim.Native.Nat.{◌+◌, ◌*◌}
 use Rattle.loader.specs.Parts.{part, joint_at}
 use Rattle.loader.proofs.Parts.{cut}
 use Rattle.loader.proofs.Linkage.{known}
-use borrow.Author.Rules.{rules}
 use Rattle.loader.proofs.joint.joint_at.Goals as goal
 
 pub returns : goal.returns

@@ -1,7 +1,6 @@
 use Rattle.loader.proofs.Linkage.{unknown}
 use native.Mathlib.Omega.{arith}
 use Rattle.loader.specs.Parts.{card_joint_in}
-use borrow.Author.Rules.{rules}
 use Rattle.loader.proofs.joint.joint_in.Goals as goal
 
 pub returns-in-0 : goal.returns-in-0

@@ -1,5 +1,4 @@
 use Rattle.loader.specs.Linkage.{linear_motor_in}
-use borrow.Author.Rules.{rules}
 use Rattle.loader.proofs.joint.linear_motor_in.Goals as goal
 
 pub returns : goal.returns

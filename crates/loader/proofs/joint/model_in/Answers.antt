@@ -1,6 +1,5 @@
 use borrow.Author.Tests.{eq-eqb, ne_eqb}
 use Rattle.loader.specs.Linkage.{model_in}
-use borrow.Author.Rules.{rules}
 use Rattle.loader.proofs.joint.model_in.Goals as goal
 
 pub returns-then-motor-eq1 : goal.returns-then-motor-eq1

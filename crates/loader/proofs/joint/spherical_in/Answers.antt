@@ -1,5 +1,4 @@
 use Rattle.loader.specs.Linkage.{spherical_in}
-use borrow.Author.Rules.{rules}
 use Rattle.loader.proofs.joint.spherical_in.Goals as goal
 
 pub returns : goal.returns

@@ -9,7 +9,6 @@ use Rattle.card.proofs.Accepted.{at_least_12}
 use Rattle.loader.proofs.Accepted.{known, fits}
 use Rattle.loader.proofs.Records.{halves, second_length}
 use Rattle.loader.proofs.Loading.{words_length_lem, floats_length_lem, loads}
-use borrow.Author.Rules.{rules}
 use Rattle.loader.proofs.load.load.Goals.{After-bits8_at-edition, After-sizes_of-at}
 use Rattle.loader.proofs.load.load.Goals as goal
 

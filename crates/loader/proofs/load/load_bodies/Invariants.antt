@@ -1,13 +1,9 @@
 -- The first of the bodies are written; a turn puts one more behind them, its words and its floats.
 use Rattle.card.specs.Card.{body}
-use Prim.Native.Nat.{◌+◌, ◌*◌, ◌-◌, ◌≤◌}
-use native.Mathlib.Omega.{arith}
-use borrow.Author.Rules.{rules}
+use Prim.Native.Nat.{◌*◌, ◌-◌, ◌≤◌}
 use Rattle.loader.specs.Linkage.{}
 use Rattle.loader.specs.Parts.{body_floats_of, body_words_of}
-use Rattle.loader.proofs.Parts.{cut, part_length}
-use Rattle.loader.proofs.Rows.{Written, none, turn, done}
-use Rattle.loader.proofs.Records.{body_words_sized, body_floats_sized}
+use Rattle.loader.proofs.Rows.{Written}
 use Rattle.loader.proofs.load.load_bodies.Given as goal
 
 abbrev pub invariant-loop-i : goal.invariant-loop-i

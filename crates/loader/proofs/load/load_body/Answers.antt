@@ -3,7 +3,6 @@ use native.Mathlib.Omega.{arith}
 use lib.ListN.{length-set}
 use lib.Seq.{length-take-le}
 use Rattle.loader.proofs.Records.{body_words_lem, body_floats_lem}
-use borrow.Author.Rules.{rules}
 use Rattle.loader.proofs.load.load_body.Goals as goal
 
 pub slice_bounds-load_floats-end-2 : goal.slice_bounds-load_floats-end-2

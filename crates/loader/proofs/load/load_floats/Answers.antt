@@ -1,8 +1,6 @@
-use Prim.Native.Nat.{◌-◌, ◌≤◌}
 use native.Mathlib.Omega.{arith}
-use mathlib.Core.Path.{◌≡◌, refl}
-use lib.ListN.{length, take, length-set}
-use Rattle.loader.specs.Parts.{floats_from}
+use mathlib.Core.Path.{refl}
+use lib.ListN.{length-set}
 use Rattle.loader.proofs.Records.{no_float, next_float, all_floats}
 use Rattle.loader.proofs.load.load_floats.Goals as goal
 

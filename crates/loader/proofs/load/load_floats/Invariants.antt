@@ -1,9 +1,7 @@
 use Prim.Native.Nat.{◌-◌, ◌≤◌}
-use native.Mathlib.Omega.{arith}
-use mathlib.Core.Path.{◌≡◌, refl}
-use lib.ListN.{length, take, length-set}
+use mathlib.Core.Path.{◌≡◌}
+use lib.ListN.{length, take}
 use Rattle.loader.specs.Parts.{floats_from}
-use Rattle.loader.proofs.Records.{no_float, next_float, all_floats}
 use Rattle.loader.proofs.load.load_floats.Given as goal
 
 abbrev pub invariant-loop-k : goal.invariant-loop-k

@@ -2,7 +2,6 @@ use native.Mathlib.Omega.{arith}
 use lib.ListN.{length-set}
 use Rattle.card.proofs.Editions.{joint_of_lem}
 use Rattle.loader.proofs.Records.{joint_words_lem, joint_floats_lem, body_numbers_lem}
-use borrow.Author.Rules.{rules}
 use Rattle.loader.proofs.load.load_joint.Goals as goal
 
 pub overflow_cast-words : goal.overflow_cast-words

@@ -5,11 +5,10 @@ use Rattle.card.proofs.Editions.{joint_of_lem, joint_width}
 use Prim.Native.Nat.{◌+◌, ◌*◌, ◌-◌, ◌≤◌}
 use native.Mathlib.Omega.{arith}
 use mathlib.Core.Path.{◌≡◌}
-use borrow.Author.Rules.{rules}
 use Rattle.loader.specs.Linkage.{}
 use Rattle.loader.specs.Parts.{joint_floats_of, joint_words_of}
 use Rattle.loader.proofs.Parts.{cut, part_length}
-use Rattle.loader.proofs.Rows.{Written, none, turn, done}
+use Rattle.loader.proofs.Rows.{none, turn, done}
 use Rattle.loader.proofs.Records.{joint_words_sized, joint_floats_sized}
 use Rattle.loader.proofs.load.load_joints.Goals as goal
 

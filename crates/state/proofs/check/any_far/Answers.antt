@@ -1,7 +1,5 @@
-use Prim.Native.Nat.{◌≤◌, ◌-◌}
 use native.Mathlib.Omega.{arith}
 use mathlib.Core.Path.{◌≡◌}
-use Rattle.state.specs.Parts.{any_far}
 use Rattle.state.proofs.Found.{none_far, next_far}
 use Rattle.state.proofs.check.any_far.Goals as goal
 

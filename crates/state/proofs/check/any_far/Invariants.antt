@@ -1,8 +1,6 @@
 use Prim.Native.Nat.{◌≤◌, ◌-◌}
-use native.Mathlib.Omega.{arith}
 use mathlib.Core.Path.{◌≡◌}
 use Rattle.state.specs.Parts.{any_far}
-use Rattle.state.proofs.Found.{none_far, next_far}
 use Rattle.state.proofs.check.any_far.Given as goal
 
 abbrev pub invariant-loop-i : goal.invariant-loop-i

@@ -1,9 +1,5 @@
-use Prim.Native.Nat.{◌≤◌, ◌-◌}
 use native.Mathlib.Omega.{arith}
-use mathlib.Core.Path.{◌≡◌, refl}
-use mathlib.Core.Bool.{not}
-use lib.ListN.{length, take}
-use Rattle.scalar.specs.Scalar.{is_finite}
+use mathlib.Core.Path.{refl}
 use Rattle.numbers.specs.Lists.{all}
 use Rattle.state.proofs.Found.{next_number, all_numbers}
 use Rattle.state.proofs.check.any_not_finite.Goals as goal

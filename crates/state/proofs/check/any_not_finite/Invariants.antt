@@ -1,11 +1,9 @@
 use Prim.Native.Nat.{◌≤◌, ◌-◌}
-use native.Mathlib.Omega.{arith}
-use mathlib.Core.Path.{◌≡◌, refl}
+use mathlib.Core.Path.{◌≡◌}
 use mathlib.Core.Bool.{not}
 use lib.ListN.{length, take}
 use Rattle.scalar.specs.Scalar.{is_finite}
 use Rattle.numbers.specs.Lists.{all}
-use Rattle.state.proofs.Found.{next_number, all_numbers}
 use Rattle.state.proofs.check.any_not_finite.Given as goal
 
 abbrev pub invariant-loop-n : goal.invariant-loop-n

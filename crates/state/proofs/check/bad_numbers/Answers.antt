@@ -1,4 +1,3 @@
-use borrow.Author.Rules.{rules}
 use Rattle.state.specs.State.{bad_numbers}
 use Rattle.state.specs.Parts.{any_far}
 use Rattle.state.proofs.check.bad_numbers.Goals as goal

@@ -1,4 +1,3 @@
-use borrow.Author.Rules.{rules}
 use Rattle.state.proofs.check.far_away.Goals as goal
 
 pub returns : goal.returns

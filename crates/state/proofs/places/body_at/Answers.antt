@@ -1,4 +1,3 @@
-use borrow.Author.Rules.{rules}
 use Rattle.state.specs.State.{body_at}
 use Rattle.state.proofs.places.body_at.Goals as goal
 

@@ -1,4 +1,3 @@
-use borrow.Author.Rules.{rules}
 use Rattle.state.specs.State.{totals_at}
 use Rattle.state.proofs.places.totals_at.Goals as goal
 

@@ -1,5 +1,4 @@
 use Prim.Native.Nat.{◌*◌}
-use borrow.Author.Rules.{rules}
 use Rattle.numbers.specs.Numbers.{numbers3, numbers4}
 use Rattle.numbers.proofs.Writes.{four_pieces}
 use Rattle.state.specs.State.{body_numbers}

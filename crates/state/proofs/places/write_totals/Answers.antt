@@ -1,4 +1,3 @@
-use borrow.Author.Rules.{rules}
 use Rattle.numbers.specs.Numbers.{numbers3}
 use Rattle.numbers.proofs.Writes.{four_pieces}
 use Rattle.state.specs.State.{state_length}

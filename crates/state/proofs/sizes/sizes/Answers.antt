@@ -1,6 +1,5 @@
 use native.Mathlib.Omega.{arith}
 use mathlib.Core.Path.{◌≡◌, sym, ◌∙◌}
-use borrow.Author.Rules.{rules}
 use Rattle.card.specs.Checks.{check_of}
 use Rattle.card.proofs.Accepted.{at_least_12}
 use Rattle.loader.proofs.Accepted.{known}

@@ -1,7 +1,6 @@
 use mathlib.Core.Path.{◌≡◌, refl}
 use mathlib.Core.List.{List}
 use Prim.Native.Nat.{ℕ}
-use borrow.Author.Rules.{rules}
 use Rattle.solver_body.specs.declared.BodyState.{BodyState}
 use Rattle.card.specs.Format.{numbers_at}
 use Rattle.card.specs.Card.{body}

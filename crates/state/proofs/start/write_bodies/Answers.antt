@@ -1,13 +1,8 @@
-use Prim.Native.Nat.{◌+◌, ◌*◌, ◌-◌, ◌≤◌}
+use Prim.Native.Nat.{◌+◌, ◌*◌, ◌-◌}
 use native.Mathlib.Omega.{arith}
 use mathlib.Core.Path.{◌≡◌, refl}
-use mathlib.Core.List.{◌++◌}
-use lib.ListN.{length, drop, length-set}
-use Rattle.card.specs.Format.{records_at}
-use Rattle.card.specs.Card.{body}
+use lib.ListN.{length-set}
 use Rattle.card.proofs.Cut.{part_length}
-use Rattle.state.specs.State.{body_numbers}
-use Rattle.state.specs.Parts.{start_numbers}
 use Rattle.state.proofs.Starting.{none_done, next_body}
 use Rattle.state.proofs.start.write_bodies.Goals as goal
 

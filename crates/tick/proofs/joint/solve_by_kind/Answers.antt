@@ -1,4 +1,3 @@
-use borrow.Author.Rules.{rules}
 use Rattle.tick.proofs.joint.solve_by_kind.Goals as goal
 
 pub solve_revolute-requires : goal.solve_revolute-requires

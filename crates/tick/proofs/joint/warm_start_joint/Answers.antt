@@ -1,4 +1,3 @@
-use borrow.Author.Rules.{rules}
 use Rattle.xpbd_joints.specs.Steps.{steps_of, warmed}
 use Rattle.xpbd_joints.specs.Solved.{prismatic_prepared}
 use Rattle.tick.specs.Parts.{joint_warmed}

@@ -1,4 +1,3 @@
-use borrow.Author.Rules.{rules}
 use native.Mathlib.Omega.{arith}
 use Rattle.tick.proofs.Loading.{body_at_lem}
 use Rattle.tick.proofs.linked.rigid_at.Goals as goal

@@ -1,9 +1,6 @@
-use borrow.Author.Rules.{rules}
 use native.Mathlib.Omega.{arith}
 use Prim.Native.Nat.{ℕ}
 use mathlib.Core.Path.{◌≡◌, sym, ◌∙◌}
-use mathlib.Core.List.{List}
-use lib.Ieee.{Float}
 use Rattle.card.specs.Answer.{number_of}
 use Rattle.card.specs.Card.{card_of}
 use Rattle.card.specs.Checks.{check_of}

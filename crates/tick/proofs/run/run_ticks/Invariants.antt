@@ -1,13 +1,9 @@
 -- Each tick turns the bodies' inertias from their own axes, so that its steps have the turned linkage.
 use Prim.Native.Nat.{◌*◌, ◌-◌, ◌≤◌}
-use native.Mathlib.Omega.{arith}
-use mathlib.Core.Path.{◌≡◌, refl, sym, ap, ◌∙◌}
+use mathlib.Core.Path.{◌≡◌}
 use lib.ListN.{length, drop}
-use lib.Seq.{length-take-le}
 use Rattle.loader.specs.Parts.{linkage_in}
 use Rattle.tick.specs.Work.{ran, ticks_of}
-use Rattle.tick.proofs.Turning.{linkage_turned, loaded_turned, same_joints}
-use Rattle.tick.proofs.Ticking.{ticks_none, ticks_more, ticks_stop, ticks_done, done_some}
 use Rattle.tick.proofs.run.run_ticks.Given as goal
 
 abbrev pub invariant-loop-done : goal.invariant-loop-done

@@ -1,4 +1,3 @@
-use borrow.Author.Rules.{rules}
 use Rattle.tick.proofs.Ticking.{tick_is}
 use Rattle.tick.proofs.run.tick.Goals as goal
 

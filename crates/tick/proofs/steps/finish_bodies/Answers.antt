@@ -1,11 +1,8 @@
-use Prim.Native.Nat.{◌-◌, ◌≤◌}
 use native.Mathlib.Omega.{arith}
-use mathlib.Core.Path.{◌≡◌, refl, sym, ap, ◌∙◌}
-use lib.ListN.{length}
-use Rattle.solver_body.specs.declared.BodyState.{BodyState}
-use Rattle.numbers.specs.Lists.{each, after}
+use mathlib.Core.Path.{refl, sym, ap, ◌∙◌}
+use Rattle.numbers.specs.Lists.{each}
 use Rattle.numbers.proofs.Loops.{after_none, after_turn, after_done}
-use Rattle.numbers.proofs.Rows.{each_length, fill, fill_each}
+use Rattle.numbers.proofs.Rows.{each_length, fill_each}
 use Rattle.loader.specs.Parts.{linkage_in}
 use Rattle.state.specs.State.{body_at, totals_at}
 use Rattle.state.proofs.Rows.{body_put, all_totals_kept}

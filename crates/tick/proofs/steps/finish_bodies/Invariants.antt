@@ -1,14 +1,10 @@
 use Prim.Native.Nat.{◌-◌, ◌≤◌}
-use native.Mathlib.Omega.{arith}
-use mathlib.Core.Path.{◌≡◌, refl, sym, ap, ◌∙◌}
+use mathlib.Core.Path.{◌≡◌}
 use lib.ListN.{length}
-use Rattle.solver_body.specs.declared.BodyState.{BodyState}
 use Rattle.numbers.specs.Lists.{each, after}
-use Rattle.numbers.proofs.Loops.{after_none, after_turn, after_done}
-use Rattle.numbers.proofs.Rows.{each_length, fill, fill_each}
+use Rattle.numbers.proofs.Rows.{fill}
 use Rattle.loader.specs.Parts.{linkage_in}
 use Rattle.state.specs.State.{body_at, totals_at}
-use Rattle.state.proofs.Rows.{body_put, all_totals_kept}
 use Rattle.tick.specs.Tick.{new_body}
 use Rattle.tick.proofs.steps.finish_bodies.Given as goal
 

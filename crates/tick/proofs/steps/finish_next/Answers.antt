@@ -1,4 +1,3 @@
-use borrow.Author.Rules.{rules}
 use native.Mathlib.Omega.{arith}
 use Rattle.loader.specs.Parts.{linkage_in}
 use Rattle.loader.proofs.Linkage.{bodies_length, joints_length}

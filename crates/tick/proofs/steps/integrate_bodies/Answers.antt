@@ -1,13 +1,9 @@
-use Prim.Native.Nat.{◌-◌, ◌≤◌}
 use native.Mathlib.Omega.{arith}
-use mathlib.Core.Path.{◌≡◌, refl, sym, ap, ◌∙◌}
-use lib.ListN.{length, get_or}
-use Rattle.solver_body.specs.Body.{dummy_body}
-use Rattle.numbers.specs.Lists.{after}
+use mathlib.Core.Path.{refl, sym, ap, ◌∙◌}
 use Rattle.numbers.proofs.Loops.{after_none, after_turn, after_done}
 use Rattle.loader.specs.Parts.{linkage_in}
 use Rattle.loader.proofs.Linkage.{bodies_length}
-use Rattle.tick.specs.Tick.{put, integrated_at}
+use Rattle.tick.specs.Tick.{put}
 use Rattle.tick.specs.Work.{bodies_in}
 use Rattle.tick.proofs.Turns.{integrate_is}
 use Rattle.tick.proofs.steps.integrate_bodies.Goals as goal

@@ -1,13 +1,10 @@
-use Prim.Native.Nat.{◌-◌, ◌≤◌}
 use native.Mathlib.Omega.{arith}
-use mathlib.Core.Path.{◌≡◌, refl, sym, ◌∙◌}
-use lib.ListN.{length}
-use Rattle.numbers.specs.Lists.{after}
+use mathlib.Core.Path.{refl, sym, ◌∙◌}
 use Rattle.numbers.proofs.Loops.{after_none, after_turn}
-use Rattle.numbers.proofs.Rows.{each_length, fill}
+use Rattle.numbers.proofs.Rows.{each_length}
 use Rattle.loader.specs.Parts.{linkage_in}
 use Rattle.loader.proofs.Linkage.{bodies_length}
-use Rattle.tick.specs.Work.{bodies_in, loaded_body}
+use Rattle.tick.specs.Work.{bodies_in}
 use Rattle.tick.proofs.SolverBodies.{body_put}
 use Rattle.tick.proofs.Turns.{loaded_done}
 use Rattle.tick.proofs.steps.load_bodies.Goals as goal

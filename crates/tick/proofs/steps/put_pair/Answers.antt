@@ -1,6 +1,4 @@
-use borrow.Author.Rules.{rules}
 use native.Mathlib.Omega.{arith}
-use mathlib.Core.Path.{◌≡◌, sym, ap, ◌∙◌}
 use Rattle.tick.proofs.Loading.{first_at, second_at, first_below, second_below}
 use Rattle.tick.proofs.steps.put_pair.Goals as goal
 

@@ -1,13 +1,8 @@
-use borrow.Author.Rules.{rules}
-use Prim.Native.Nat.{◌-◌, ◌≤◌}
 use native.Mathlib.Omega.{arith}
 use mathlib.Core.Bool.{true}
-use mathlib.Core.Path.{◌≡◌, refl, sym, ap, ◌∙◌}
-use lib.ListN.{length}
-use Rattle.numbers.specs.Lists.{after}
+use mathlib.Core.Path.{refl, sym, ap, ◌∙◌}
 use Rattle.numbers.proofs.Loops.{after_none, after_turn, after_done}
 use Rattle.loader.specs.Parts.{linkage_in}
-use Rattle.tick.specs.Tick.{solve_next}
 use Rattle.tick.specs.Work.{solved_in, outcome}
 use Rattle.tick.proofs.Solving.{stop_is, solve_turn, solve_ends, solve_last}
 use Rattle.tick.proofs.steps.solve_joints.Goals as goal

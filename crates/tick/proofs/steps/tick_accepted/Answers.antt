@@ -1,7 +1,5 @@
-use borrow.Author.Rules.{rules}
 use native.Mathlib.Omega.{arith}
-use mathlib.Core.Path.{◌≡◌, refl, sym, ap, ◌∙◌, subst}
-use mathlib.Core.Bool.{true, false, not}
+use mathlib.Core.Path.{ap, ◌∙◌, subst}
 use lib.Dec.{T}
 use Rattle.loader.specs.Parts.{linkage_in}
 use Rattle.loader.proofs.Linkage.{bodies_length, joints_length}

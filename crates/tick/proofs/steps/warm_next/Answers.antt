@@ -1,4 +1,3 @@
-use borrow.Author.Rules.{rules}
 use mathlib.Core.Path.{sym, ap, ◌∙◌}
 use Rattle.loader.specs.Parts.{linkage_in}
 use Rattle.tick.specs.Tick.{put_pair}

@@ -1,9 +1,7 @@
 use Prim.Native.Nat.{◌-◌, ◌≤◌}
-use native.Mathlib.Omega.{arith}
-use mathlib.Core.Path.{◌≡◌, refl, sym, ◌∙◌}
+use mathlib.Core.Path.{◌≡◌}
 use lib.ListN.{length}
 use Rattle.numbers.specs.Lists.{after}
-use Rattle.numbers.proofs.Loops.{after_none, after_turn, after_done}
 use Rattle.loader.specs.Parts.{linkage_in}
 use Rattle.tick.specs.Tick.{warm_start_next}
 use Rattle.tick.specs.Work.{bodies_in}

@@ -1,11 +1,8 @@
 -- The first of the bodies are turned; a turn of the loop puts one more behind them.
-use Prim.Native.Nat.{◌+◌, ◌*◌, ◌-◌, ◌≤◌}
-use native.Mathlib.Omega.{arith}
-use mathlib.Core.Path.{◌≡◌, refl, ap, ◌∙◌}
+use Prim.Native.Nat.{◌-◌, ◌≤◌}
+use mathlib.Core.Path.{◌≡◌}
 use lib.ListN.{length}
-use borrow.Author.Rules.{rules}
-use Rattle.loader.proofs.Parts.{cut, part_length}
-use Rattle.tick.proofs.Turning.{turned_to, turned_none, turned_more, turned_length, turned_all}
+use Rattle.tick.proofs.Turning.{turned_to}
 use Rattle.tick.proofs.turn.turn_bodies.Given as goal
 
 abbrev pub invariant-loop-i : goal.invariant-loop-i

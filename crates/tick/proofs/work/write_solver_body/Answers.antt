@@ -1,7 +1,6 @@
 use Prim.Native.Nat.{◌*◌}
 use Rattle.state.specs.State.{body_numbers}
 use Rattle.tick.proofs.SolverBodies.{body_written}
-use borrow.Author.Rules.{rules}
 use Rattle.tick.proofs.work.write_solver_body.Goals as goal
 
 pub returns : goal.returns

@@ -1,4 +1,3 @@
-use borrow.Author.Rules.{rules}
 use Rattle.xpbd_joints.specs.Solved.{driven_along}
 use Rattle.xpbd_joints.proofs.prismatic.drive.Goals as goal
 

@@ -1,4 +1,3 @@
-use borrow.Author.Rules.{rules}
 use Rattle.xpbd_joints.specs.Prismatic.{free_axis_correction}
 use Rattle.xpbd_joints.proofs.prismatic.free_axis_correction.Goals as goal
 

@@ -1,4 +1,3 @@
-use borrow.Author.Rules.{rules}
 use Rattle.xpbd_joints.specs.Solved.{angle_limit_stage}
 use Rattle.xpbd_joints.proofs.revolute.apply_angle_limits.Goals as goal
 

@@ -1,4 +1,3 @@
-use borrow.Author.Rules.{rules}
 use Rattle.xpbd_joints.specs.Solved.{driven_by}
 use Rattle.xpbd_joints.proofs.revolute.drive.Goals as goal
 

@@ -1,4 +1,3 @@
-use borrow.Author.Rules.{rules}
 use Rattle.xpbd_joints.specs.Solved.{swing_stage}
 use Rattle.xpbd_joints.proofs.spherical.apply_swing_limits.Goals as goal
 

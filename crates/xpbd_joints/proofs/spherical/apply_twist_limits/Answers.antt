@@ -1,4 +1,3 @@
-use borrow.Author.Rules.{rules}
 use Rattle.xpbd_joints.specs.Solved.{twist_stage}
 use Rattle.xpbd_joints.proofs.spherical.apply_twist_limits.Goals as goal
 

@@ -1,5 +1,4 @@
 -- A `search` for each variant meets its bound from 17 variants on.
-use borrow.Author.Rules.{rules}
 use Rattle.card.proofs.answer.Answer.number.Goals as goal
 
 pub returns-in-Done : goal.returns-in-Done

@@ -3,7 +3,6 @@ use mathlib.Core.Path.{◌≡◌, refl}
 use mathlib.Core.Bool.{Bool, true, false, not, ◌||◌, ◌&&◌, and-true, and-false, or-false}
 use mathlib.Core.List.{List}
 use lib.Ieee.{Float}
-use borrow.Author.Rules.{rules}
 use Rattle.card.specs.declared.checks.Faults.{Faults}
 use Rattle.card.specs.Parts.{any_to, set_at, outside_at, faults, field_faults}
 use Rattle.card.proofs.Loops.{any_never, any_same}
