@@ -10,61 +10,68 @@ ghost use Rattle.linkage.specs.Lines.{ticks_of};
 
 use crate::fill::fill;
 use crate::lines::put_refusal;
-use libc::{STDIN_FILENO, STDOUT_FILENO};
+use input::read_full;
 use state::sizes::sizes;
 use state::start::start;
+use std::io;
 
 // The state of 255 bodies and 255 joints: no card has more of either.
 const LARGEST: usize = 6375;
 
-fn print_refusal(number: u8) {
+// The bytes that are read at most, and those that one write takes at most.
+const LARGE: usize = 65536;
+
+fn print_refusal(rt: &impl Print, number: u8) -> io::Result<()> {
     let mut line = [0; 12];
     let n = put_refusal(&mut line, 0, number);
-    io::write_all(STDOUT_FILENO, &line[..n]);
+    rt.write_all(&line[..n])
 }
 
 // Ticks up to the first that is refused. What can't be written ends the program.
-fn run(card: &[u8], state: &mut [f32], bodies: usize, ticks: u64)
+fn run(rt: &impl Print, card: &[u8], state: &mut [f32], bodies: usize, ticks: u64) -> io::Result<()>
     requires { (bodies ≤ 255) × (body_numbers * bodies ≤ length state.old) × (ticks ≤ 65535) }
 {
-    let mut out = io::large_buffer();
+    let mut out = [0; LARGE];
     let mut done = 0;
     while done < ticks {
         let filled = fill(card, state, bodies, done, ticks, &mut out);
         let n = filled.bytes;
-        if !io::write_all(STDOUT_FILENO, &out[..n]) {
-            return;
-        }
+        rt.write_all(&out[..n])?;
         done = filled.done;
     }
+    Ok(())
 }
 
 // From the start state of the card.
-fn start_and_run(card: &[u8], state: &mut [f32], bodies: usize, ticks: u64)
+fn start_and_run(
+    rt: &impl Print,
+    card: &[u8],
+    state: &mut [f32],
+    bodies: usize,
+    ticks: u64,
+) -> io::Result<()>
     requires { (bodies ≤ 255) × (body_numbers * bodies ≤ length state.old) × (ticks ≤ 65535) }
 {
     let answer = start(card, state);
     let number = answer.number();
     if number != 0 {
-        print_refusal(number);
-        return;
+        return print_refusal(rt, number);
     }
-    run(card, state, bodies, ticks);
+    run(rt, card, state, bodies, ticks)
 }
 
-fn run_card(card: &[u8], ticks: u64)
+fn run_card(rt: &impl Print, card: &[u8], ticks: u64) -> io::Result<()>
     requires { ticks ≤ 65535 }
 {
     let size = sizes(card);
     let answer = size.answer;
     let number = answer.number();
     if number != 0 {
-        print_refusal(number);
-        return;
+        return print_refusal(rt, number);
     }
     let mut room = [0.0; LARGEST];
     let numbers = size.state;
-    start_and_run(card, &mut room[..numbers], size.bodies, ticks);
+    start_and_run(rt, card, &mut room[..numbers], size.bodies, ticks)
 }
 
 fn ticks_of(high: u8, low: u8) -> u64
@@ -74,18 +81,17 @@ fn ticks_of(high: u8, low: u8) -> u64
 }
 
 // Two bytes for the count, and the card.
-fn run_input(input: &[u8]) {
+fn run_input(rt: &impl Print, input: &[u8]) -> io::Result<()> {
     if input.len() < 2 {
-        print_refusal(1);
-        return;
+        return print_refusal(rt, 1);
     }
     let ticks = ticks_of(input[0], input[1]);
-    run_card(&input[2..], ticks);
+    run_card(rt, &input[2..], ticks)
 }
 
-fn main() {
+fn main(rt: HostRuntime) -> io::Result<()> {
     // More than any card has: what is left unread could only be refused for its length.
-    let mut input = io::large_buffer();
-    let n = io::read_full(STDIN_FILENO, &mut input);
-    run_input(&input[..n]);
+    let mut input = [0; LARGE];
+    let n = read_full(&mut rt.reader(), &mut input)?;
+    run_input(&rt, &input[..n])
 }

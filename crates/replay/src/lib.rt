@@ -3,6 +3,8 @@
 
 ghost use Rattle.std.specs.Prelude.{◌<◌};
 
+use std::io;
+
 fn wide(x: u8) -> u32
     ensures { result < 256 }
 {
@@ -29,14 +31,15 @@ pub fn bits(x: f32) -> u32 {
     f32::to_bits(x)
 }
 
-pub fn print_number(x: f32) {
-    io::print_hex(1, bits(x) as u64, 8);
+pub fn print_number(rt: &impl Print, x: f32) -> io::Result<()> {
+    let bits = bits(x);
+    print!(rt; "{bits:08x}")
 }
 
-pub fn print_space() {
-    io::write_all(1, b" ");
+pub fn print_space(rt: &impl Print) -> io::Result<()> {
+    rt.write_all(b" ")
 }
 
-pub fn print_line_end() {
-    io::write_all(1, b"\n");
+pub fn print_line_end(rt: &impl Print) -> io::Result<()> {
+    rt.write_all(b"\n")
 }

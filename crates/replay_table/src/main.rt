@@ -4,9 +4,11 @@
 
 ghost use Rattle.std.specs.Prelude.{◌<◌};
 
+use input::read_full;
 use replay::{bits, print_line_end, print_space};
 use state::sizes::sizes;
 use state::start::start;
+use std::io;
 use tick::run::run;
 
 // The state of 255 bodies and 255 joints: no card has more of either.
@@ -29,50 +31,53 @@ fn sum(state: &[f32]) -> u64 {
     sum
 }
 
-fn replay_run(card: &[u8], state: &mut [f32], ticks: u32) {
+fn replay_run(rt: &impl Print, card: &[u8], state: &mut [f32], ticks: u32) -> io::Result<()> {
     start(card, state);
     let ran = run(card, state, ticks);
     let answer = ran.answer;
-    io::print_decimal(1, answer.number() as u64);
-    print_space();
-    io::print_decimal(1, ran.ticks as u64);
-    print_space();
-    io::print_hex(1, sum(state), 8);
-    print_line_end();
+    rt.print(answer.number())?;
+    print_space(rt)?;
+    rt.print(ran.ticks)?;
+    print_space(rt)?;
+    let sum = sum(state);
+    print!(rt; "{sum:08x}")?;
+    print_line_end(rt)
 }
 
 // The state of a card that is refused has no number.
-fn replay_card(card: &[u8], ticks: u32) {
+fn replay_card(rt: &impl Print, card: &[u8], ticks: u32) -> io::Result<()> {
     let size = sizes(card);
     let numbers = size.state;
     let mut room = [0.0; LARGEST];
-    replay_run(card, &mut room[..numbers], ticks);
+    replay_run(rt, card, &mut room[..numbers], ticks)
 }
 
 // A card that fills the room, or the end of the input.
-fn replay_read(room: &mut [u8], ticks: u32) -> bool {
-    if io::read_full(0, room) < room.len() {
-        return false;
+fn replay_read(rt: &(impl Input + Print), room: &mut [u8], ticks: u32) -> io::Result<bool> {
+    if read_full(&mut rt.reader(), room)? < room.len() {
+        return Ok(false);
     }
-    replay_card(room, ticks);
-    true
+    replay_card(rt, room, ticks)?;
+    Ok(true)
 }
 
-fn replay_next() -> bool {
+fn replay_next(rt: &(impl Input + Print)) -> io::Result<bool> {
     let mut head = [0u8; 4];
-    if io::read_full(0, &mut head) < 4 {
-        return false;
+    if read_full(&mut rt.reader(), &mut head)? < 4 {
+        return Ok(false);
     }
     let ticks = pair(head[0], head[1]);
     let length = pair(head[2], head[3]) as usize;
-    let mut room = io::large_buffer();
-    replay_read(&mut room[..length], ticks)
+    let mut room = [0u8; 65536];
+    replay_read(rt, &mut room[..length], ticks)
 }
 
-// Nothing says that the input ends, so the loop counts its turns down, from a number that no input uses up.
-fn main() {
-    let mut turns = u64::MAX;
-    while turns > 0 && replay_next() {
-        turns -= 1;
+// Nothing says that the input ends, so the loop counts its turns, up to a number that no input uses up.
+fn main(rt: HostRuntime) -> io::Result<()> {
+    for _ in 0..u64::MAX {
+        if !replay_next(&rt)? {
+            break;
+        }
     }
+    Ok(())
 }

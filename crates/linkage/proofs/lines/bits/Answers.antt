@@ -7,8 +7,7 @@ use lib.Ieee.Compare.{differs_from_itself}
 use Rattle.scalar.specs.Arith.{if◌then◌else◌}
 use Rattle.scalar.proofs.Signs.{no_nan}
 use Rattle.linkage.specs.Lines.{bits_of}
-use Rattle.linkage.proofs.lines.bits.Statement.{statement}
-use Rattle.linkage.proofs.lines.bits.Tie as tie
+use Rattle.linkage.proofs.lines.bits.Goals as goal
 
 a_nan : (x : Float) → ne x x ≡ true → 0x7fc00000 ≡ bits_of x
 unfolding bits_of is_nan
@@ -18,15 +17,12 @@ a_number : (b : Bool) (n : ℕ) → T (not b) → n ≡ (if b then 0x7fc00000 el
 a_number true n h = absurd h
 a_number false n h = refl
 
-float-to-bits-result : tie.Need-float-to-bits-result
-float-to-bits-result c = no_nan c.before.args.x c.if1.false
+pub float_to_bits-result : goal.float_to_bits-result
+float_to_bits-result c = no_nan c.args.x c.if-x.false
 
-returns : tie.Need-returns
-returns c = a_nan _ c.if1.true
+pub returns-then-x : goal.returns-then-x
+returns-then-x c = a_nan _ c.if-x.true
 
-returns-2 : tie.Need-returns-2
+pub returns : goal.returns
 unfolding bits_of
-returns-2 c = let x = c.before.args.x in a_number (is_nan x) (to_bits binary32 x) (no_nan x c.if1.false)
-
-pub bits-spec : {M : Type 1} → statement M
-bits-spec = tie.close (tie.spec returns float-to-bits-result returns-2)
+returns c = let x = c.args.x in a_number (is_nan x) (to_bits binary32 x) (no_nan x c.if-x.false)
