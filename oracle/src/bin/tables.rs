@@ -28,14 +28,14 @@ struct Table {
 const SINES: Table = Table {
     numbers: &SINE,
     list: "sines",
-    row: "sineRow",
+    row: "sine_row",
     function: "sine",
 };
 
 const ARCTANGENTS: Table = Table {
     numbers: &ARCTANGENT,
     list: "arcs",
-    row: "arcRow",
+    row: "arc_row",
     function: "arctangent",
 };
 
@@ -68,8 +68,8 @@ impl Table {
         });
         format!(
             "fn {function}_row_{i}(i: usize) -> u32
-    requires {{ ⌜ i < 64 ⌝ }}
-    ensures {{ λ r. ⌜ r ≡ getD {row}{i} i 0 ⌝ }}
+    requires {{ i < 64 }}
+    ensures {{ result ≡ get_or {row}{i} i 0 }}
 {{
     match i {{
 {arms}
@@ -88,8 +88,8 @@ impl Table {
         let last = self.numbers[1024];
         format!(
             "pub fn {function}_at(i: usize) -> u32
-    requires {{ ⌜ i ≤ 1024 ⌝ }}
-    ensures {{ λ r. ⌜ r ≡ getD {list} i 0 ⌝ }}
+    requires {{ i ≤ 1024 }}
+    ensures {{ result ≡ get_or {list} i 0 }}
 {{
     match i / 64 {{
 {arms}
@@ -204,7 +204,7 @@ fn curves() -> Vec<Part> {
     let of = |file, text| Part { file, text };
     vec![
         of(CURVES, format!("    match i {{\n{arms}\n")),
-        of(STARTS, format!("startingValues =\n{values} []\n")),
+        of(STARTS, format!("starting_values =\n{values} []\n")),
     ]
 }
 

@@ -1,0 +1,6 @@
+use native.Mathlib.Omega.{arith}
+use Rattle.convert.proofs.Sizes.{size_small}
+use Rattle.host.proofs.linkage_to_edition_2.Goals as goal
+
+pub overflow_cast-length : goal.overflow_cast-length
+overflow_cast-length c = omega (arith, size_small {from = 1} {to = 2} (omega arith) (omega arith) _ _ c.to_edition_2-converted.ensures)
