@@ -1,4 +1,5 @@
 -- The first of a list of checks that applies, check by check, and in a list that others stand behind.
+use Rattle.std.specs.Prelude.{if◌then◌else◌}
 use Prim.Native.Nat.{ℕ, zero, suc}
 use native.Mathlib.Omega.{arith}
 use mathlib.Core.Path.{◌≡◌, refl, ap, ◌∙◌}
@@ -6,7 +7,6 @@ use mathlib.Core.Bool.{Bool, true, false, cond}
 use mathlib.Core.List.{List, [], ◌∷◌, ◌++◌}
 use lib.Dec.{T, eqb}
 use borrow.Author.Tests.{ne_eqb}
-use Rattle.scalar.specs.Arith.{if◌then◌else◌}
 use Rattle.card.specs.Checks.{Refusal, refuse, first_of}
 
 pub data First : List Refusal → ℕ → Type 0 where

@@ -1,4 +1,5 @@
 -- What a conversion answers by its checks.
+use Rattle.std.specs.Prelude.{if◌then◌else◌}
 use Prim.Native.Nat.{ℕ, ◌≤◌, ◌<◌}
 use mathlib.Core.Path.{◌≡◌, refl, sym, ap, ◌∙◌}
 use mathlib.Core.Bool.{Bool, true, false, not}
@@ -6,7 +7,6 @@ use mathlib.Core.List.{List, [], ◌∷◌, ◌++◌}
 use lib.ListN.{length, drop}
 use lib.Dec.{ltb, eqb}
 use borrow.Author.Tests.{eqb-true, not-false, lt-ltb, le-ltb, eq-eqb, ne_eqb}
-use Rattle.scalar.specs.Arith.{if◌then◌else◌}
 use Rattle.card.specs.Format.{bits_at}
 use Rattle.card.specs.Card.{edition_at, card_of}
 use Rattle.card.specs.Checks.{Refusal, refuse, first_of, card_checks, check_of}

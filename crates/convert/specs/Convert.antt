@@ -1,6 +1,5 @@
 -- Document 02, point 4: a card packed from its numbers, by the cells of an edition, and the converter, which packs a card's numbers by another's.
-use Rattle.std.specs.Prelude.{ℕ, zero, suc, ◌+◌, ◌*◌, ◌/◌, ◌%◌, ◌^◌, Bool, not, ◌||◌, List, [], ◌∷◌, ◌++◌, map, length, drop, set, ltb, eqb}
-use Rattle.scalar.specs.Arith.{if◌then◌else◌}
+use Rattle.std.specs.Prelude.{ℕ, zero, suc, ◌+◌, ◌*◌, ◌/◌, ◌%◌, ◌^◌, Bool, not, ◌||◌, List, [], ◌∷◌, ◌++◌, map, length, drop, set, ltb, eqb, if◌then◌else◌}
 use Rattle.numbers.specs.Lists.{concat}
 use Rattle.card.specs.Format.{bits_at, Cell, width_of}
 use Rattle.card.specs.Card.{at, body, Edition, edition_of, edition_at, Card, card_of}

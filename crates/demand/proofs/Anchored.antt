@@ -1,4 +1,5 @@
 -- After every list of calls an anchored body's 13 numbers are the card's.
+use Rattle.std.specs.Prelude.{if◌then◌else◌}
 use Prim.Native.Nat.{ℕ, ◌<◌}
 use mathlib.Core.Path.{◌≡◌, refl, ap, ◌∙◌}
 use mathlib.Core.Logic.{inl, inr}
@@ -8,7 +9,6 @@ use lib.ListN.{length, get_or, length-map, get_or-map}
 use lib.Dec.{T, eqb}
 use lib.Ieee.{Float}
 use borrow.Author.Tests.{ne_eqb}
-use Rattle.scalar.specs.Arith.{if◌then◌else◌}
 use Rattle.solver_body.specs.declared.BodyState.{BodyState}
 use Rattle.xpbd_joints.specs.Steps.{no_totals}
 use Rattle.stages.proofs.Choice.{either}

@@ -1,8 +1,9 @@
 -- Beyond 1 in size an arc sine is that of 1 with the sign, which is computed; the rest follows by the definitions.
+use Rattle.std.specs.Prelude.{if◌then◌else◌}
 use mathlib.Core.Path.{◌≡◌, refl, ap, ◌∙◌}
 use mathlib.Core.Bool.{Bool, true, false}
 use lib.Ieee.{Float, of_bits, of_fields, add, sub, mul, div, neg, sum, round, units, odd, size, span, climb, le, lt, eq}
-use Rattle.scalar.specs.Arith.{if◌then◌else◌, ◌⊕◌, ◌⊖◌, ◌⊗◌, f0, f1}
+use Rattle.scalar.specs.Arith.{◌⊕◌, ◌⊖◌, ◌⊗◌, f0, f1}
 use Rattle.scalar.specs.Scalar.{is_finite}
 use Rattle.root.specs.Root.{root_of}
 use Rattle.trig.specs.Arctangent.{half_pi, atan2_of, angle_of, half_plane_angle, quadrant_angle, atan_of, atan_small, within_one, asin_of}

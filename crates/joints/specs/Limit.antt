@@ -1,7 +1,7 @@
 -- Limits of a distance and of an angle: Müller 2020, equation (25) and the algorithm for limited joint angles; the bound of 2^-23 and the longest correction are the Rust's. Definitions only.
-use Rattle.std.specs.Prelude.{Bool, ◌||◌, Float}
+use Rattle.std.specs.Prelude.{Bool, ◌||◌, Float, if◌then◌else◌}
 use Rattle.std.specs.Float.Ieee.{lt, le}
-use Rattle.scalar.specs.Arith.{if◌then◌else◌, ◌⊖◌, f0, epsilon, pi, tau}
+use Rattle.scalar.specs.Arith.{◌⊖◌, f0, epsilon, pi, tau}
 use Rattle.scalar.specs.Scalar.{clamp_of}
 use Rattle.trig.specs.Arctangent.{asin_of}
 use Rattle.vector.specs.Vector.{origin, neg_of, scale_of, div_of, dot_of, cross_of, length_squared_of, length_of, clamp_length_max}

@@ -1,7 +1,7 @@
 -- A motor's multiplier by its model, both the Rust's own. Definitions only.
-use Rattle.std.specs.Prelude.{Bool, not, ◌&&◌, Float}
+use Rattle.std.specs.Prelude.{Bool, not, ◌&&◌, Float, if◌then◌else◌}
 use Rattle.std.specs.Float.Ieee.{neg, lt, le}
-use Rattle.scalar.specs.Arith.{if◌then◌else◌, ◌⊕◌, ◌⊗◌, ◌⊘◌, f0, f1, f2, epsilon, largest, tau}
+use Rattle.scalar.specs.Arith.{◌⊕◌, ◌⊗◌, ◌⊘◌, f0, f1, f2, epsilon, largest, tau}
 use Rattle.scalar.specs.Scalar.{abs_of, clamp_of}
 use Rattle.joints.specs.declared.motor.MotorModel.{MotorModel}
 use Rattle.joints.specs.declared.motor.MotorModel.TheVariants.{SpringDamper, AccelerationBased, ForceBased}

@@ -1,8 +1,8 @@
 -- A stop at a right angle (document 02, point 2): an angle limit whose arc sine has an argument above 1 in size. Definitions only.
-use Rattle.std.specs.Prelude.{◌≡◌, Bool, true, false, Float}
+use Rattle.std.specs.Prelude.{◌≡◌, Bool, true, false, Float, if◌then◌else◌}
 use Rattle.std.specs.Float.{nan}
 use Rattle.std.specs.Float.Ieee.{neg, lt}
-use Rattle.scalar.specs.Arith.{if◌then◌else◌, f32, f0, f1}
+use Rattle.scalar.specs.Arith.{f32, f0, f1}
 use Rattle.scalar.specs.Scalar.{abs_of, is_finite}
 use Rattle.trig.specs.Arctangent.{half_pi, asin_of}
 use Rattle.vector.specs.Vector.{dot_of, cross_of}

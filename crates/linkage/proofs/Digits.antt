@@ -1,4 +1,5 @@
 -- Laws of digits: how many a number has, and one more of them.
+use Rattle.std.specs.Prelude.{if◌then◌else◌}
 use Prim.Native.Nat.{ℕ, zero, suc, ◌+◌, ◌-◌, ◌/◌, ◌%◌, ◌^◌, ◌≤◌, ◌<◌}
 use native.Mathlib.Nat.{pow-zero, pow-suc, div-one, div-div-eq-div-mul, div-mul-le_self}
 use native.Mathlib.Omega.{arith}
@@ -9,7 +10,6 @@ use lib.Dec.{ltb}
 use lib.ListN.{length, set}
 use lib.Seq.{sets}
 use borrow.Author.Tests.{lt-ltb, le-ltb}
-use Rattle.scalar.specs.Arith.{if◌then◌else◌}
 use Rattle.linkage.specs.Lines.{digit_of, digits_of, places, decimal_of}
 use Rattle.linkage.proofs.Writes.{set_before}
 

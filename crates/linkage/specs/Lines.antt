@@ -1,8 +1,7 @@
 -- Document 01, 'Examples': the tick count that the program reads, and the lines that it writes, as bytes.
-use Rattle.std.specs.Prelude.{ℕ, zero, suc, ◌+◌, ◌*◌, ◌/◌, ◌%◌, ◌^◌, List, [], ◌∷◌, ◌++◌, map, ltb, eqb, Float}
+use Rattle.std.specs.Prelude.{ℕ, zero, suc, ◌+◌, ◌*◌, ◌/◌, ◌%◌, ◌^◌, List, [], ◌∷◌, ◌++◌, map, ltb, eqb, Float, if◌then◌else◌}
 use Rattle.std.specs.Float.{binary32}
 use Rattle.std.specs.Float.Ieee.{is_nan, to_bits}
-use Rattle.scalar.specs.Arith.{if◌then◌else◌}
 use Rattle.solver_body.specs.declared.BodyState.{BodyState}
 use Rattle.numbers.specs.Lists.{concat, each}
 use Rattle.numbers.specs.Numbers.{numbers3, numbers4}

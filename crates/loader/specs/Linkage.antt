@@ -1,8 +1,8 @@
 -- A card as the solver has it: document 01, 'The card', decoded. A record is read by its words, the numbers before its floats, and by its floats.
-use Rattle.std.specs.Prelude.{ℕ, ◌+◌, Bool, List, [], ◌∷◌, ◌++◌, map, get_or, take, drop, eqb, pos, Float}
+use Rattle.std.specs.Prelude.{ℕ, ◌+◌, Bool, List, [], ◌∷◌, ◌++◌, map, get_or, take, drop, eqb, pos, Float, if◌then◌else◌}
 use Rattle.std.specs.Float.{binary32}
 use Rattle.std.specs.Float.Ieee.{of_int}
-use Rattle.scalar.specs.Arith.{if◌then◌else◌, ◌⊘◌, f32, f1}
+use Rattle.scalar.specs.Arith.{◌⊘◌, f32, f1}
 use Rattle.vector.specs.declared.SymmetricTensor.{SymmetricTensor}
 use Rattle.joints.specs.declared.JointFrame.{JointFrame}
 use Rattle.joints.specs.declared.AngleLimitOption.{AngleLimitOption}

@@ -1,4 +1,5 @@
 -- Two accepted cards that differ in their edition alone have one linkage, and so the same ticks.
+use Rattle.std.specs.Prelude.{if◌then◌else◌}
 use Prim.Native.Nat.{ℕ}
 use native.Mathlib.Omega.{arith}
 use mathlib.Core.Path.{◌≡◌, sym, ap, ◌∙◌}
@@ -8,7 +9,6 @@ use lib.ListN.{length}
 use lib.Seq.{get_or-set_other}
 use lib.Dec.{eqb}
 use lib.Ieee.{Float}
-use Rattle.scalar.specs.Arith.{if◌then◌else◌}
 use Rattle.numbers.proofs.Loops.{after_same}
 use Rattle.card.specs.Card.{edition_at, Card, card_of}
 use Rattle.card.specs.Checks.{Refusal, refuse, first_of, card_checks, check_of}

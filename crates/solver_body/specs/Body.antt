@@ -1,6 +1,6 @@
 -- A body's inverse mass under its locks, and the dummy that stands for an anchored body (src/dynamics/solver/solver_body/mod.rs). Definitions only.
-use Rattle.std.specs.Prelude.{Bool, false, Float}
-use Rattle.scalar.specs.Arith.{if◌then◌else◌, f32, f0}
+use Rattle.std.specs.Prelude.{Bool, false, Float, if◌then◌else◌}
+use Rattle.scalar.specs.Arith.{f32, f0}
 use Rattle.vector.specs.Vector.{origin}
 use Rattle.vector.specs.Rotation.{identity}
 use Rattle.vector.specs.Matrix.{zero_tensor}

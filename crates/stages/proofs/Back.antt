@@ -1,10 +1,10 @@
 -- Finite at the end of a joint's solve: finite all the way. Totals and displacements change by sums only, and a stage that returns early changes neither (or adds zero to its total).
+use Rattle.std.specs.Prelude.{if◌then◌else◌}
 use mathlib.Core.Path.{◌≡◌, refl}
 use mathlib.Core.Bool.{Bool, true, false}
 use mathlib.Core.List.{List, [], ◌∷◌}
 use lib.Dec.{T}
 use lib.Ieee.{binary32, neg, of_bits}
-use Rattle.scalar.specs.Arith.{if◌then◌else◌}
 use Rattle.vector.specs.Vector.{origin, neg_of, scale_of, times_of}
 use Rattle.vector.specs.Rotation.{turn_of}
 use Rattle.vector.specs.declared.Vec3.{Vec3}

@@ -1,4 +1,5 @@
 -- What a joint's solve whose end is finite leaves of each stage and push: `SoundStage` and `SoundPush`, all that the laws of rounding ask for.
+use Rattle.std.specs.Prelude.{if◌then◌else◌}
 use mathlib.Core.Path.{refl}
 use mathlib.Core.Bool.{Bool, true, false, not}
 use mathlib.Core.List.{List, [], ◌∷◌, ◌++◌, Memᴰ}
@@ -6,7 +7,7 @@ use lib.Dec.{T}
 use lib.Ieee.{Float, binary32, lt, le, fits}
 use lib.Ieee.Fits.{sub-fits, div-fits}
 use lib.Ieee.Bits.{of_bits-fits}
-use Rattle.scalar.specs.Arith.{if◌then◌else◌, ◌⊖◌, ◌⊗◌, ◌⊘◌, f0, epsilon, pi}
+use Rattle.scalar.specs.Arith.{◌⊖◌, ◌⊗◌, ◌⊘◌, f0, epsilon, pi}
 use Rattle.scalar.specs.Scalar.{abs_of}
 use Rattle.vector.specs.Vector.{neg_of, scale_of, div_of, cross_of, length_of, length_squared_of}
 use Rattle.vector.specs.Rotation.{turn_of}

@@ -1,11 +1,11 @@
 -- What a call answers by a list of checks: the state unless one applies.
+use Rattle.std.specs.Prelude.{if◌then◌else◌}
 use Prim.Native.Nat.{ℕ}
 use mathlib.Core.Path.{◌≡◌, sym, ap, ◌∙◌}
 use mathlib.Core.List.{List, ◌++◌}
 use lib.Dec.{T, eqb}
 use lib.Ieee.{Float}
 use borrow.Author.Tests.{ne_eqb}
-use Rattle.scalar.specs.Arith.{if◌then◌else◌}
 use Rattle.card.specs.Checks.{Refusal, first_of}
 use Rattle.card.proofs.Checking.{numbered, passed_on}
 use Rattle.state.specs.State.{Answered, answered, unless_refused}

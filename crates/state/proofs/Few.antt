@@ -1,4 +1,5 @@
 -- A card's counts are small, whatever its bytes, and its state holds its bodies.
+use Rattle.std.specs.Prelude.{if◌then◌else◌}
 use Prim.Native.Nat.{ℕ, ◌*◌, ◌≤◌}
 use native.Mathlib.Omega.{arith}
 use mathlib.Core.Path.{◌≡◌, refl}
@@ -7,7 +8,6 @@ use mathlib.Core.List.{List}
 use lib.ListN.{length}
 use lib.Dec.{eqb}
 use borrow.Author.Tests.{eqb-true}
-use Rattle.scalar.specs.Arith.{if◌then◌else◌}
 use Rattle.card.specs.Card.{card_of}
 use Rattle.card.specs.Checks.{check_of}
 use Rattle.card.proofs.Accepted.{accepted, at_most_200}

@@ -1,7 +1,6 @@
 -- Document 01, 'State' and 'Turned back', 11 and 12: 13 numbers for each body, then 12 for each joint; its start, and a call that writes it.
-use Rattle.std.specs.Prelude.{ℕ, ◌+◌, ◌*◌, Bool, not, ◌||◌, List, [], ◌∷◌, ◌++◌, map, length, eqb, Float}
+use Rattle.std.specs.Prelude.{ℕ, ◌+◌, ◌*◌, Bool, not, ◌||◌, List, [], ◌∷◌, ◌++◌, map, length, eqb, Float, if◌then◌else◌}
 use Rattle.std.specs.Float.Ieee.{neg}
-use Rattle.scalar.specs.Arith.{if◌then◌else◌}
 use Rattle.scalar.specs.Scalar.{is_finite, outside}
 use Rattle.vector.specs.declared.Vec3.{Vec3}
 use Rattle.solver_body.specs.Body.{position_bound}

@@ -1,4 +1,5 @@
 -- Without a dominance the former choice gives each joint the inertias as they are.
+use Rattle.std.specs.Prelude.{if◌then◌else◌}
 use Prim.Native.Nat.{ℕ}
 use native.Mathlib.Nat.{lt_of_not-le}
 use native.Mathlib.Decide.{dec_le}
@@ -9,7 +10,6 @@ use lib.ListN.{length, get_or, length-map, get_or-map, get_or-eq_default}
 use lib.Dec.{T}
 use lib.IntN.{pos}
 use lib.Ieee.{Float}
-use Rattle.scalar.specs.Arith.{if◌then◌else◌}
 use Rattle.vector.specs.declared.Quat.{Quat}
 use Rattle.solver_body.specs.Body.{dummy_inertia}
 use Rattle.solver_body.specs.declared.SolverBodyInertia.{SolverBodyInertia}

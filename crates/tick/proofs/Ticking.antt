@@ -1,4 +1,5 @@
 -- Ticks in a row: a run of a card and a state that no check refuses is the ticks of its linkage.
+use Rattle.std.specs.Prelude.{if◌then◌else◌}
 use Prim.Native.Nat.{ℕ, zero, suc, ◌+◌, ◌≤◌, ◌<◌}
 use native.Mathlib.Omega.{arith}
 use mathlib.Core.Path.{◌≡◌, refl, sym, ap, ◌∙◌}
@@ -8,7 +9,6 @@ use lib.ListN.{length, length-map}
 use lib.Dec.{eqb}
 use lib.Ieee.{Float}
 use borrow.Author.Tests.{eq-eqb, ne_eqb, le-ltb, lt-ltb}
-use Rattle.scalar.specs.Arith.{if◌then◌else◌}
 use Rattle.numbers.specs.Lists.{after}
 use Rattle.numbers.proofs.Loops.{after_none, after_more, after_kept}
 use Rattle.card.specs.Card.{edition_at, card_of}

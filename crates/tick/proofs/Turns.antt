@@ -1,4 +1,5 @@
 -- The bodies' steps: the load fills every place, and a joint without a motor warms nothing.
+use Rattle.std.specs.Prelude.{if◌then◌else◌}
 use Prim.Native.Nat.{ℕ, zero, suc, ◌≤◌, ◌<◌}
 use native.Mathlib.Omega.{arith}
 use mathlib.Core.Path.{◌≡◌, refl, sym, ap, ◌∙◌}
@@ -7,7 +8,6 @@ use mathlib.Core.List.{List}
 use lib.ListN.{length, get_or, set, replicate, length-replicate, get_or-replicate}
 use lib.Seq.{set-get_or}
 use lib.Ieee.{Float}
-use Rattle.scalar.specs.Arith.{if◌then◌else◌}
 use Rattle.joints.specs.declared.Joint.{Joint}
 use Rattle.joints.specs.declared.Joint.TheVariants.{Fixed, Revolute, Prismatic, Spherical, Distance}
 use Rattle.solver_body.specs.Body.{solver_body_of, dummy_body}

@@ -1,7 +1,7 @@
 -- A moving body in a tick, but for its joints: document 01, 'One tick'. Definitions only.
-use Rattle.std.specs.Prelude.{Float}
+use Rattle.std.specs.Prelude.{Float, if◌then◌else◌}
 use Rattle.std.specs.Float.Ieee.{lt}
-use Rattle.scalar.specs.Arith.{if◌then◌else◌, ◌⊕◌, ◌⊗◌, f0, f2}
+use Rattle.scalar.specs.Arith.{◌⊕◌, ◌⊗◌, f0, f2}
 use Rattle.vector.specs.Vector.{add_of, sub_of, neg_of, scale_of, div_of}
 use Rattle.vector.specs.Rotation.{vector_part, product_of, inverse_of, turn_of, normalized, of_scaled_axis}
 use Rattle.vector.specs.Matrix.{turned_tensor}

@@ -1,7 +1,6 @@
 -- Document 02, point 5: the choice of inertias by dominance that a tick had, as a definition for one theorem: on each card that no check refuses it chooses nothing.
-use Rattle.std.specs.Prelude.{ℕ, ◌≡◌, Bool, List, [], get_or, ltb, ℤ, pos, ◌-ℤ◌, Float}
+use Rattle.std.specs.Prelude.{ℕ, ◌≡◌, Bool, List, [], get_or, ltb, ℤ, pos, ◌-ℤ◌, Float, if◌then◌else◌}
 use Rattle.std.specs.Int.Signed.{lt_z}
-use Rattle.scalar.specs.Arith.{if◌then◌else◌}
 use Rattle.solver_body.specs.Body.{dummy_inertia}
 use Rattle.solver_body.specs.declared.SolverBodyInertia.{SolverBodyInertia}
 use Rattle.xpbd_joints.specs.Stage.{Setting}

@@ -1,6 +1,5 @@
 -- Document 01, 'Turned back': the public calls that tick. Each is all or nothing.
-use Rattle.std.specs.Prelude.{ℕ, ◌+◌, List, [], ◌∷◌, ◌++◌, eqb, Float}
-use Rattle.scalar.specs.Arith.{if◌then◌else◌}
+use Rattle.std.specs.Prelude.{ℕ, ◌+◌, List, [], ◌∷◌, ◌++◌, eqb, Float, if◌then◌else◌}
 use Rattle.numbers.specs.Lists.{after}
 use Rattle.card.specs.Card.{card_of}
 use Rattle.card.specs.Checks.{refuse, first_of}

@@ -1,6 +1,5 @@
 -- Document 01, 'One tick', of a linkage and a state: each body by itself, the joints in card order, and refusal 13.
-use Rattle.std.specs.Prelude.{ℕ, Bool, true, false, not, ◌||◌, ◌&&◌, List, [], map, length, get_or, set, replicate, Float}
-use Rattle.scalar.specs.Arith.{if◌then◌else◌}
+use Rattle.std.specs.Prelude.{ℕ, Bool, true, false, not, ◌||◌, ◌&&◌, List, [], map, length, get_or, set, replicate, Float, if◌then◌else◌}
 use Rattle.scalar.specs.Scalar.{is_finite}
 use Rattle.solver_body.specs.Body.{solver_body_of, dummy_body}
 use Rattle.solver_body.specs.declared.BodyState.{BodyState}

@@ -1,6 +1,5 @@
 -- The numbers that a tick works on: 13 of each body among the solver's, and the new state; Tick.antt needs none of it.
-use Rattle.std.specs.Prelude.{ℕ, ◌+◌, ◌*◌, Bool, false, ◌≡◌, List, [], length, eqb, ltb, Float}
-use Rattle.scalar.specs.Arith.{if◌then◌else◌}
+use Rattle.std.specs.Prelude.{ℕ, ◌+◌, ◌*◌, Bool, false, ◌≡◌, List, [], length, eqb, ltb, Float, if◌then◌else◌}
 use Rattle.solver_body.specs.Body.{solver_body_of, dummy_body}
 use Rattle.solver_body.specs.declared.SolverBody.{SolverBody}
 use Rattle.xpbd_joints.specs.Steps.{Run}

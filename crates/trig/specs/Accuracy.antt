@@ -1,8 +1,8 @@
 -- The claim that sine, cosine and `atan2` lie within 2^-20 of the exact value (document 01, 'Arithmetic beneath'): of both ends of their series' brackets, at the exact argument. Definitions only.
-use Rattle.std.specs.Prelude.{◌≡◌, ℕ, ◌+◌, ◌*◌, ◌^◌, ◌≤◌, Bool, true, false, ◌&&◌, T, nat_lt, Float}
+use Rattle.std.specs.Prelude.{◌≡◌, ℕ, ◌+◌, ◌*◌, ◌^◌, ◌≤◌, Bool, true, false, ◌&&◌, T, nat_lt, Float, if◌then◌else◌}
 use Rattle.std.specs.Float.{nan, inf, fin, binary32}
 use Rattle.std.specs.Float.Ieee.{up, down, neg, lt, le, eq, fits}
-use Rattle.scalar.specs.Arith.{if◌then◌else◌, f0}
+use Rattle.scalar.specs.Arith.{f0}
 use Rattle.scalar.specs.Scalar.{abs_of, is_finite}
 use Rattle.series.specs.Series.{denominator, sin_term, cos_term, added, taken, euler_denominator, euler_sum, euler_term}
 use Rattle.trig.specs.Sine.{sixteen, sin_of, cos_of}

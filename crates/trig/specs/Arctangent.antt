@@ -1,8 +1,8 @@
 -- The arctangent, `atan2` and the arc sine of f32s (document 01, 'Arithmetic beneath'). Definitions only.
-use Rattle.std.specs.Prelude.{ℕ, ◌+◌, ◌/◌, ◌%◌, ◌^◌, not, ◌&&◌, ℤ, pos, nat_lt, slice_index, Float}
+use Rattle.std.specs.Prelude.{ℕ, ◌+◌, ◌/◌, ◌%◌, ◌^◌, not, ◌&&◌, ℤ, pos, nat_lt, slice_index, Float, if◌then◌else◌}
 use Rattle.std.specs.Float.{nan}
 use Rattle.std.specs.Float.Ieee.{neg, lt, eq}
-use Rattle.scalar.specs.Arith.{if◌then◌else◌, ◌⊕◌, ◌⊖◌, ◌⊗◌, ◌⊘◌, f32, f0, f1, pi}
+use Rattle.scalar.specs.Arith.{◌⊕◌, ◌⊖◌, ◌⊗◌, ◌⊘◌, f32, f0, f1, pi}
 use Rattle.scalar.specs.Scalar.{abs_of, sign_bit, is_finite}
 use Rattle.series.specs.Tables.{arcs}
 use Rattle.root.specs.Root.{root_of}

@@ -1,7 +1,7 @@
 -- What the parts of sine, cosine and `atan2` hand to each other, for their own contracts: Sine.antt and Arctangent.antt need none of it.
-use Rattle.std.specs.Prelude.{◌≡◌, ℕ, ◌+◌, ◌-◌, ◌≤◌, Bool, true, false, ◌&&◌, ℤ, pos, neg_ℤ, slice_index, Float}
+use Rattle.std.specs.Prelude.{◌≡◌, ℕ, ◌+◌, ◌-◌, ◌≤◌, Bool, true, false, ◌&&◌, ℤ, pos, neg_ℤ, slice_index, Float, if◌then◌else◌}
 use Rattle.std.specs.Float.Ieee.{eq}
-use Rattle.scalar.specs.Arith.{if◌then◌else◌, f0}
+use Rattle.scalar.specs.Arith.{f0}
 use Rattle.scalar.specs.Scalar.{abs_of, is_finite}
 use Rattle.series.specs.Tables.{sines}
 use Rattle.trig.specs.Interpolation.{interpolated}

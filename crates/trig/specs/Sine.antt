@@ -1,8 +1,8 @@
 -- Sine and cosine of an f32 (document 01, 'Arithmetic beneath'). Definitions only.
-use Rattle.std.specs.Prelude.{ℕ, ◌+◌, ◌-◌, ◌*◌, ◌/◌, ◌%◌, ◌^◌, not, ℤ, pos, neg_ℤ, nat_le, slice_index, Float}
+use Rattle.std.specs.Prelude.{ℕ, ◌+◌, ◌-◌, ◌*◌, ◌/◌, ◌%◌, ◌^◌, not, ℤ, pos, neg_ℤ, nat_le, slice_index, Float, if◌then◌else◌}
 use Rattle.std.specs.Float.{nan}
 use Rattle.std.specs.Float.Ieee.{neg, lt, le, to_unsigned}
-use Rattle.scalar.specs.Arith.{if◌then◌else◌, ◌⊖◌, ◌⊗◌, ◌⊘◌, f32, f0, f1, f2}
+use Rattle.scalar.specs.Arith.{◌⊖◌, ◌⊗◌, ◌⊘◌, f32, f0, f1, f2}
 use Rattle.scalar.specs.Scalar.{abs_of}
 use Rattle.series.specs.Tables.{sines}
 use Rattle.trig.specs.Interpolation.{interpolated, over_unit, unit}

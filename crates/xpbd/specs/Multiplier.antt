@@ -1,7 +1,7 @@
 -- The update of a constraint's multiplier: Macklin 2016; Müller 2020, equation (4); its guard is the Rust's. Definitions only.
-use Rattle.std.specs.Prelude.{Float}
+use Rattle.std.specs.Prelude.{Float, if◌then◌else◌}
 use Rattle.std.specs.Float.Ieee.{neg, le}
-use Rattle.scalar.specs.Arith.{if◌then◌else◌, ◌⊕◌, ◌⊖◌, ◌⊗◌, ◌⊘◌, f0, epsilon}
+use Rattle.scalar.specs.Arith.{◌⊕◌, ◌⊖◌, ◌⊗◌, ◌⊘◌, f0, epsilon}
 
 -- α̃ = α / h²
 abbrev pub tilde_compliance : Float → Float → Float

@@ -1,7 +1,7 @@
 -- What a point and a fixed angle prepare, each correction with what it does to the bodies and to a constraint's total, and the two bodies that a function is lent, for the code's own contracts: no reader needs them.
-use Rattle.std.specs.Prelude.{Float}
+use Rattle.std.specs.Prelude.{Float, if◌then◌else◌}
 use Rattle.std.specs.Float.Ieee.{neg, eq, le}
-use Rattle.scalar.specs.Arith.{if◌then◌else◌, f0, epsilon}
+use Rattle.scalar.specs.Arith.{f0, epsilon}
 use Rattle.vector.specs.Vector.{origin, add_of, neg_of, scale_of, div_of, length_of, length_squared_of}
 use Rattle.vector.specs.Rotation.{product_of, inverse_of, turn_of}
 use Rattle.vector.specs.declared.Vec3.{Vec3}

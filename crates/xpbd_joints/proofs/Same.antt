@@ -1,8 +1,9 @@
 -- Each kind's solve, as the code's contracts have it, is the run of its steps.
+use Rattle.std.specs.Prelude.{if◌then◌else◌}
 use mathlib.Core.Path.{◌≡◌, refl, sym, ap, ◌∙◌}
 use mathlib.Core.Bool.{Bool, true, false, not}
 use lib.Ieee.{Float, neg, eq, le}
-use Rattle.scalar.specs.Arith.{if◌then◌else◌, f0, epsilon, pi}
+use Rattle.scalar.specs.Arith.{f0, epsilon, pi}
 use Rattle.vector.specs.Vector.{origin, scale_of, cross_of, length_of, length_squared_of}
 use Rattle.vector.specs.Rotation.{turn_of}
 use Rattle.vector.specs.declared.Vec3.{Vec3}

@@ -1,6 +1,6 @@
 -- What a prismatic joint prepares, its motor's warm start and what its motor gives, all the Rust's own; and the correction of its positions: Müller 2020, equation (25), along three axes, the limit's with the others. Definitions only.
-use Rattle.std.specs.Prelude.{not, Float}
-use Rattle.scalar.specs.Arith.{if◌then◌else◌, ◌⊕◌, ◌⊖◌, ◌⊗◌}
+use Rattle.std.specs.Prelude.{not, Float, if◌then◌else◌}
+use Rattle.scalar.specs.Arith.{◌⊕◌, ◌⊖◌, ◌⊗◌}
 use Rattle.vector.specs.Vector.{origin, add_of, sub_of, scale_of, times_of, dot_of, cross_of, any_orthogonal}
 use Rattle.vector.specs.Rotation.{turn_of}
 use Rattle.vector.specs.Matrix.{tensor_times}

@@ -1,6 +1,6 @@
 -- What a revolute joint prepares, its motor's warm start and what its motor gives: all the Rust's own. Definitions only.
-use Rattle.std.specs.Prelude.{not, Float}
-use Rattle.scalar.specs.Arith.{if◌then◌else◌, ◌⊕◌, ◌⊖◌, pi, tau}
+use Rattle.std.specs.Prelude.{not, Float, if◌then◌else◌}
+use Rattle.scalar.specs.Arith.{◌⊕◌, ◌⊖◌, pi, tau}
 use Rattle.scalar.specs.Scalar.{rem_euclid_of}
 use Rattle.trig.specs.Arctangent.{atan2_of}
 use Rattle.vector.specs.Vector.{add_of, sub_of, scale_of, dot_of, cross_of}

@@ -1,7 +1,7 @@
 -- What each kind prepares, each stage with its total, and each kind's solve as one composition of its stages, for the code's own contracts: Steps.antt, which readers go by, needs none of it.
-use Rattle.std.specs.Prelude.{true, Float}
+use Rattle.std.specs.Prelude.{true, Float, if◌then◌else◌}
 use Rattle.std.specs.Float.Ieee.{neg, le}
-use Rattle.scalar.specs.Arith.{if◌then◌else◌, ◌⊕◌, f0, epsilon, pi}
+use Rattle.scalar.specs.Arith.{◌⊕◌, f0, epsilon, pi}
 use Rattle.vector.specs.Vector.{origin, add_of, sub_of, neg_of, scale_of, div_of, cross_of, length_of, any_orthonormal}
 use Rattle.vector.specs.Rotation.{product_of, turn_of}
 use Rattle.vector.specs.Matrix.{of_quat, matrix_times}

@@ -1,7 +1,7 @@
 -- What a spherical joint prepares, in the Rust's form, and the corrections of its swing and its twist: Müller 2020, equations (22) to (24), with the swing axes for a, the twist axes for b and the longest correction of the Rust's own. Definitions only.
-use Rattle.std.specs.Prelude.{Float}
+use Rattle.std.specs.Prelude.{Float, if◌then◌else◌}
 use Rattle.std.specs.Float.Ieee.{neg, lt, le}
-use Rattle.scalar.specs.Arith.{if◌then◌else◌, ◌⊗◌, half, f2, epsilon, pi}
+use Rattle.scalar.specs.Arith.{◌⊗◌, half, f2, epsilon, pi}
 use Rattle.vector.specs.Vector.{add_of, sub_of, scale_of, div_of, dot_of, cross_of, length_of}
 use Rattle.vector.specs.declared.Vec3.{Vec3}
 use Rattle.joints.specs.Limit.{angle_correction}

@@ -1,7 +1,7 @@
 -- A joint's solve is its list of steps: compliance stages (Müller 2020) and motors, each from the bodies that the one before left. The order of a kind's steps, the motors and the totals are the Rust's own. Definitions only.
-use Rattle.std.specs.Prelude.{Bool, true, false, List, [], ◌∷◌, ◌++◌, Float}
+use Rattle.std.specs.Prelude.{Bool, true, false, List, [], ◌∷◌, ◌++◌, Float, if◌then◌else◌}
 use Rattle.std.specs.Float.Ieee.{neg}
-use Rattle.scalar.specs.Arith.{if◌then◌else◌, ◌⊕◌, ◌⊘◌, f0}
+use Rattle.scalar.specs.Arith.{◌⊕◌, ◌⊘◌, f0}
 use Rattle.vector.specs.Vector.{origin, add_of, neg_of, scale_of, div_of, any_orthonormal}
 use Rattle.vector.specs.Rotation.{turn_of}
 use Rattle.vector.specs.declared.Vec3.{Vec3}

@@ -1,7 +1,8 @@
 -- Below 2^-6, or by the table with either sign.
+use Rattle.std.specs.Prelude.{if◌then◌else◌}
 use Rattle.std.proofs.Common.{◌≡◌, ℕ, ◌+◌, ◌*◌, ◌/◌, Bool, true, false, T, sym, ap, ◌∙◌, subst}
 use lib.Ieee.{Float, neg, lt, le}
-use Rattle.scalar.specs.Arith.{if◌then◌else◌, f0}
+use Rattle.scalar.specs.Arith.{f0}
 use Rattle.scalar.specs.Scalar.{abs_of}
 use Rattle.trig.specs.Sine.{scaled_of, phase_of, step_of, fraction_of, table_sine, sin_in_reach, cos_in_reach, sin_small, cos_small, sixteen, sixty_fourth}
 use Rattle.scalar.proofs.Sizes.{abs-abs}

@@ -1,10 +1,10 @@
+use Rattle.std.specs.Prelude.{if◌then◌else◌}
 use Prim.Native.Nat.{ℕ}
 use mathlib.Core.Path.{◌≡◌, refl, sym, subst}
 use mathlib.Core.Bool.{Bool, true, false, not}
 use lib.Dec.{T}
 use lib.Ieee.{Float, binary32, is_nan, to_bits, ne}
 use lib.Ieee.Compare.{differs_from_itself}
-use Rattle.scalar.specs.Arith.{if◌then◌else◌}
 use Rattle.scalar.proofs.Signs.{no_nan}
 use Rattle.linkage.specs.Lines.{bits_of}
 use Rattle.linkage.proofs.lines.bits.Goals as goal
