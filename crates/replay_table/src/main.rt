@@ -9,6 +9,7 @@ use replay::{bits, print_line_end, print_space};
 use state::sizes::sizes;
 use state::start::start;
 use std::io;
+use std::io::Read;
 use tick::run::run;
 
 // The state of 255 bodies and 255 joints: no card has more of either.
@@ -53,29 +54,34 @@ fn replay_card(rt: &impl Print, card: &[u8], ticks: u32) -> io::Result<()> {
 }
 
 // A card that fills the room, or the end of the input.
-fn replay_read(rt: &(impl Input + Print), room: &mut [u8], ticks: u32) -> io::Result<bool> {
-    if read_full(&mut rt.reader(), room)? < room.len() {
+fn replay_read(
+    rt: &impl Print,
+    from: &mut impl Read,
+    room: &mut [u8],
+    ticks: u32,
+) -> io::Result<bool> {
+    if read_full(from, room)? < room.len() {
         return Ok(false);
     }
     replay_card(rt, room, ticks)?;
     Ok(true)
 }
 
-fn replay_next(rt: &(impl Input + Print)) -> io::Result<bool> {
+fn replay_next(rt: &impl Print, from: &mut impl Read) -> io::Result<bool> {
     let mut head = [0u8; 4];
-    if read_full(&mut rt.reader(), &mut head)? < 4 {
+    if read_full(from, &mut head)? < 4 {
         return Ok(false);
     }
     let ticks = pair(head[0], head[1]);
     let length = pair(head[2], head[3]) as usize;
     let mut room = [0u8; 65536];
-    replay_read(rt, &mut room[..length], ticks)
+    replay_read(rt, from, &mut room[..length], ticks)
 }
 
 // Nothing says that the input ends, so the loop counts its turns, up to a number that no input uses up.
 fn main(rt: HostRuntime) -> io::Result<()> {
     for _ in 0..u64::MAX {
-        if !replay_next(&rt)? {
+        if !replay_next(&rt, &mut rt.stdin())? {
             break;
         }
     }
