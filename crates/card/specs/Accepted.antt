@@ -1,4 +1,4 @@
--- What a card that no check refuses has, as far as proofs read it: proofs/Accepted.antt shows it from checkOf card ≡ 0.
+-- What a card that no check refuses has, as far as proofs read it: proofs/Accepted.antt shows it from check_of card ≡ 0.
 use Rattle.std.specs.Prelude.{ℕ, ◌+◌, ◌*◌, ◌≤◌, ◌<◌, ◌≡◌, List, [], map, length, get_or, T, Float}
 use Rattle.std.specs.Float.{binary32}
 use Rattle.std.specs.Float.Ieee.{fits, le, neg}

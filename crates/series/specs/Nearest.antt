@@ -3,7 +3,7 @@ use Rattle.std.specs.Prelude.{ℕ, ◌+◌, ◌*◌, ◌^◌, ◌<◌, ◌≡◌
 use Rattle.series.specs.Tables.{sines, arcs}
 use Rattle.series.specs.Series.{denominator, sin_term, added, taken, euler_denominator, euler_term, euler_sum}
 
--- π lies in [piLow, piHigh] / 2^60
+-- π lies in [pi_low, pi_high] / 2^60
 abbrev pub pi_low : ℕ
 pi_low = 3622009729038561420
 
