@@ -5,9 +5,7 @@ ghost use Rattle.std.specs.Float.Ieee.{rem};
 ghost use Rattle.root.specs.Parts.{sig_of, exp_of};
 
 use crate::{abs, is_finite, is_sign_negative};
-
-// 2^23: the place of the exponent in a bit pattern, and the leading digit of a significand.
-const HIDDEN: u32 = 0x0080_0000;
+use root::HIDDEN;
 
 fn significand(b: u32) -> u32
     requires { b < 0x7f80_0000 }
