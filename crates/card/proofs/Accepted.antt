@@ -26,7 +26,9 @@ use Rattle.card.specs.Accepted.{Real, In, Ranged, Narrow, Accepted}
 use Rattle.card.proofs.Bools.{both, or_left, or_right}
 use Rattle.card.proofs.Cut.{records_length, record_at}
 use Rattle.card.proofs.Checking.{passed}
-use Rattle.card.proofs.Editions.{most_200}
+use Rattle.card.specs.declared.edition.Edition as named
+use Rattle.card.specs.Parts.{edition_number}
+use Rattle.card.proofs.Editions.{edition_with, most_200}
 
 pub any_not : (p : List ℕ → Bool) (l : List (List ℕ)) (i : ℕ) → i < length l → any p l ≡ false → p (get_or l i []) ≡ false
 unfolding any
@@ -183,12 +185,18 @@ pub at_least_12 : (card : List ℕ) → check_of card ≡ 0 → 12 ≤ length ca
 unfolding check_of
 at_least_12 card z = ltb-false (length card) 12 (passed (card_checks (edition_at card) card (card_of card)) tt z 1)
 
+-- ---- 2
+
+-- the card names an edition
+pub edition : (card : List ℕ) → check_of card ≡ 0 → (e : named.Edition) × (edition_number e ≡ bits_at card 0 8)
+edition card z = let a = accepted card z in edition_with (bits_at card 0 8) a.edition.0 a.edition.1
+
 -- ---- 3
 
 pub at_most_200 : (card : List ℕ) → check_of card ≡ 0 → let h = (card_of card).header in (at 1 h ≤ 200) × (at 2 h ≤ 200)
 at_most_200 card z =
     let a = accepted card z in
-    let most = most_200 (bits_at card 0 8) a.edition in
+    let most : (edition_at card).most ≤ 200 = rw (edition card z).1 at (most_200 (edition card z).0) in
     (omega (arith, a.has.few_bodies, most), omega (arith, a.has.few_joints, most))
 
 -- ---- 17

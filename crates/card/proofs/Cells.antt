@@ -8,14 +8,7 @@ use lib.ListN.{replicate}
 use Rattle.card.specs.Format.{Range}
 use Rattle.card.specs.Format.{bits_at, Cell, width_of, numbers_at, any_cell}
 use Rattle.card.specs.Parts.{any_to}
-use Rattle.card.proofs.Loops.{any_same}
-
--- ---- a search from its first index on
-
-first : (f : ℕ → Bool) (n : ℕ) → any_to f (suc n) ≡ (f 0 || any_to (λ k. f (suc k)) n)
-unfolding any_to
-first f zero = sym (or-false (f 0))
-first f (suc n) = rw (first f n) (or_assoc (f 0) (any_to (λ k. f (suc k)) n) (f (suc n)))
+use Rattle.card.proofs.Loops.{first, any_same}
 
 -- ---- the numbers of cells in two parts
 

@@ -1,23 +1,32 @@
 -- The rows of the checks from 6 on, from what is found in the records.
 use Prim.Native.Nat.{ℕ, ◌+◌, ◌*◌}
 use native.Mathlib.Omega.{arith}
-use mathlib.Core.Path.{◌≡◌, refl, sym, ◌∙◌}
-use mathlib.Core.Bool.{Bool, false, ◌||◌}
-use mathlib.Core.List.{List}
+use mathlib.Core.Path.{◌≡◌, refl, sym, ap, ◌∙◌}
+use mathlib.Core.Bool.{Bool, true, false, cond, ◌||◌}
+use mathlib.Core.List.{List, [], ◌∷◌}
 use Rattle.vector.specs.Rotation.{norm_squared_of}
 use Rattle.card.specs.declared.checks.Faults.{Faults}
 use Rattle.card.specs.Format.{width_of, numbers_at, records_at, unused_set, out_of_range}
-use Rattle.card.specs.Card.{at, body, Edition, edition_of, quat}
-use Rattle.card.specs.Checks.{any, misfit, dominant, too_wide, reversed, off_unit, off_axis, wrong_pair}
-use Rattle.card.specs.Parts.{header_faults, body_faults, joint_faults, faults_of, used_out, pair_of}
+use Rattle.card.specs.Card.{at, body, Edition, quat}
+use Rattle.card.specs.Checks.{any, misfit, dominant, too_wide, reversed, off_unit, off_axis, wrong_pair, Refusal, refuse, first_of, record_checks}
+use Rattle.card.specs.Parts.{card_with, header_faults, body_faults, joint_faults, faults_of, used_out}
 use Rattle.card.proofs.Bools.{or_left, or_right}
 use Rattle.card.proofs.Unused.{used_enough, any_agree}
 
--- the header has `bytes` bytes
-module _ (n bytes : ℕ) (place : 8 * bytes ≡ width_of (edition_of n).header) (card : List ℕ) (bodies joints : ℕ) where
-  abbrev e : Edition
-  e = edition_of n
+one : (n : ℕ) (b : Bool) (checks : List Refusal) → first_of (refuse n b ∷ checks) ≡ cond b n (first_of checks)
+one n true checks = refl
+one n false checks = refl
 
+-- check 7 is as it was looked for once check 6 has passed
+decide : (a : Bool) {b c d e f g a' b' c' d' e' f' g' : Bool} → a ≡ a' → b ≡ b' → (a ≡ false → c ≡ c') → d ≡ d' → e ≡ e' → f ≡ f' → g ≡ g'
+    → first_of (refuse 6 a' ∷ refuse 17 b' ∷ refuse 7 c' ∷ refuse 19 d' ∷ refuse 8 e' ∷ refuse 9 f' ∷ refuse 10 g' ∷ []) ≡ cond a 6 (cond b 17 (cond c 7 (cond d 19 (cond e 8 (cond f 9 (cond g 10 0))))))
+decide true ea eb ec ed ee ef eg = rw (← ea) refl
+decide false {b} {c} {d} {e} {f} {g} ea eb ec ed ee ef eg =
+    rw (← ea, ← eb, ← (ec refl), ← ed, ← ee, ← ef, ← eg)
+    (one 17 b _ ∙ ap (cond b 17) (one 7 c _ ∙ ap (cond c 7) (one 19 d _ ∙ ap (cond d 19) (one 8 e _ ∙ ap (cond e 8) (one 9 f _ ∙ ap (cond f 9) (one 10 g []))))))
+
+-- the header has `bytes` bytes
+module _ (e : Edition) (bytes : ℕ) (place : 8 * bytes ≡ width_of e.header) (card : List ℕ) (bodies joints : ℕ) where
   abbrev header_row : List ℕ
   header_row = numbers_at e.header card 0
 
@@ -32,7 +41,7 @@ module _ (n bytes : ℕ) (place : 8 * bytes ≡ width_of (edition_of n).header) 
 
   module _ {h b j : Faults} (eh : h ≡ header_faults e.header header_row) (eb : b ≡ faults_of body_faults (records_at body card (8 * bytes) bodies))
       (ej : j ≡ faults_of (joint_faults e.joint) (records_at e.joint card (8 * (bytes + 94 * bodies)) joints)) where
-    pub row_6 : (h.bits || b.bits || j.bits)
+    row_6 : (h.bits || b.bits || j.bits)
         ≡ (unused_set e.header header_row || any (unused_set body) body_rows || any (λ r. unused_set e.joint r || misfit r) joint_rows)
     unfolding header_faults body_faults joint_faults faults_of
     row_6 = rw (eh, eb, ej, place, joints_place) refl
@@ -41,11 +50,11 @@ module _ (n bytes : ℕ) (place : 8 * bytes ≡ width_of (edition_of n).header) 
     abbrev Clean : Type 0
     Clean = (h.bits || b.bits || j.bits) ≡ false
 
-    pub row_17 : b.dominance ≡ any dominant body_rows
+    row_17 : b.dominance ≡ any dominant body_rows
     unfolding body_faults faults_of
     row_17 = rw (eb, place) refl
 
-    pub row_7 : Clean → (h.floats || b.floats || j.floats) ≡ (out_of_range e.header header_row || any (out_of_range body) body_rows || any (out_of_range e.joint) joint_rows)
+    row_7 : Clean → (h.floats || b.floats || j.floats) ≡ (out_of_range e.header header_row || any (out_of_range body) body_rows || any (out_of_range e.joint) joint_rows)
     unfolding header_faults body_faults joint_faults faults_of
     row_7 clean =
         let t = sym row_6 ∙ clean in
@@ -63,19 +72,24 @@ module _ (n bytes : ℕ) (place : 8 * bytes ≡ width_of (edition_of n).header) 
         )
         refl
 
-    pub row_19 : j.angles ≡ any too_wide joint_rows
+    row_19 : j.angles ≡ any too_wide joint_rows
     unfolding joint_faults faults_of
     row_19 = rw (ej, joints_place) refl
 
-    pub row_8 : j.limits ≡ any (λ r. reversed 28 r || reversed 30 r) joint_rows
+    row_8 : j.limits ≡ any (λ r. reversed 28 r || reversed 30 r) joint_rows
     unfolding joint_faults faults_of
     row_8 = rw (ej, joints_place) refl
 
-    pub row_9 : (b.norms || j.norms) ≡ (any (λ r. off_unit (norm_squared_of (quat r 9))) body_rows || any off_axis joint_rows)
+    row_9 : (b.norms || j.norms) ≡ (any (λ r. off_unit (norm_squared_of (quat r 9))) body_rows || any off_axis joint_rows)
     unfolding body_faults joint_faults faults_of
     row_9 = rw (eb, ej, place, joints_place) refl
 
-  pub row_10 : {r : Bool} → r ≡ any (pair_of (records_at body card (8 * bytes) bodies)) (records_at e.joint card (8 * (bytes + 94 * bodies)) joints)
+    -- by what was found the checks answer, with what is found of pairs
+    pub decided : {pairs : Bool} → pairs ≡ any (λ r. wrong_pair body_rows (at 1 r) (at 2 r)) joint_rows
+        → first_of (record_checks e (card_with e card bodies joints))
+        ≡ cond (h.bits || b.bits || j.bits) 6 (cond b.dominance 17 (cond (h.floats || b.floats || j.floats) 7 (cond j.angles 19 (cond j.limits 8 (cond (b.norms || j.norms) 9 (cond pairs 10 0))))))
+    decided ep = decide (h.bits || b.bits || j.bits) row_6 row_17 row_7 row_19 row_8 row_9 ep
+
+  pub row_10 : {r : Bool} → r ≡ any (λ j. wrong_pair (records_at body card (8 * bytes) bodies) (at 1 j) (at 2 j)) (records_at e.joint card (8 * (bytes + 94 * bodies)) joints)
       → r ≡ any (λ j. wrong_pair body_rows (at 1 j) (at 2 j)) joint_rows
-  unfolding pair_of
   row_10 er = er ∙ rw (place, joints_place) refl

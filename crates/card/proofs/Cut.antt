@@ -1,5 +1,5 @@
 -- A record's own part of the card has its numbers; a row of records, one by one.
-use Prim.Native.Nat.{ℕ, zero, suc, ◌+◌, ◌*◌, ◌-◌, ◌/◌, ◌%◌, ◌≤◌, ◌<◌}
+use Prim.Native.Nat.{ℕ, zero, suc, ◌+◌, ◌*◌, ◌/◌, ◌%◌, ◌≤◌, ◌<◌}
 use native.Mathlib.Nat.{le_of_suc-le-suc, not-suc-le-zero, suc-mul}
 use native.Mathlib.Numerals.{add-one}
 use native.Mathlib.Omega.{arith}
@@ -56,11 +56,6 @@ module _ (l : List ℕ) (at n : ℕ) where
 -- ---- records in a row
 
 module _ (cs : List Cell) (l : List ℕ) where
-  pub next_record : (p n : ℕ) → 0 < n → records_at cs l p n ≡ numbers_at cs l p ∷ records_at cs l (p + width_of cs) (n - 1)
-  unfolding records_at
-  next_record p zero h = absurd (omega arith)
-  next_record p (suc n) h = let e : suc n - 1 ≡ n = omega arith in rw e
-
   pub record_at : (p n i : ℕ) → i < n → get_or (records_at cs l p n) i [] ≡ numbers_at cs l (p + i * width_of cs)
   unfolding records_at
   record_at p zero i h = absurd (omega arith)

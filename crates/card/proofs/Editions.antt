@@ -2,36 +2,29 @@
 use Prim.Native.Nat.{ℕ, zero, suc, ◌+◌, ◌*◌, ◌-◌, ◌/◌, ◌%◌, ◌^◌, ◌≤◌}
 use native.Mathlib.Omega.{arith}
 use mathlib.Core.Path.{◌≡◌, refl, sym, ap, subst, ◌∙◌}
-use mathlib.Core.Bool.{Bool, true, false, not, true≢false}
+use mathlib.Core.Bool.{Bool, true, false, not}
 use mathlib.Core.List.{List, [], ◌∷◌, ◌++◌}
 use lib.ListN.{length}
 use lib.Dec.{eqb, ltb}
-use borrow.Author.Tests.{eq-eqb, ne_eqb, ltb-false}
+use borrow.Author.Tests.{eq-eqb, ne_eqb, lt-ltb}
+use Rattle.card.specs.declared.edition.Edition as named
+use Rattle.card.specs.declared.edition.Edition.TheVariants.{One, Two}
 use Rattle.card.specs.declared.edition.EditionSizes.{EditionSizes}
 use Rattle.card.specs.declared.records.HeaderBits.{HeaderBits}
 use Rattle.card.specs.declared.records.JointBits.{JointBits}
 use Rattle.card.specs.Format.{Range}
 use Rattle.card.specs.Format.{Bounded, NotNegative, Cap}
 use Rattle.card.specs.Format.{bits_at, Cell, width_of, numbers_at}
-use Rattle.card.specs.Card.{at, flag, always, never, bits, header, kind_of, compliant, motored, joint, editions, edition_of, edition_at, card_of, float}
+use Rattle.card.specs.Card.{at, flag, always, never, bits, header, kind_of, compliant, motored, joint, Edition, edition_of, edition_at, card_of, float}
 use Rattle.card.specs.Checks.{Refusal, refuse, record_checks, card_checks, check_of}
-use Rattle.card.specs.Parts.{Listed, sizes_of, card_with, edition_fault, counts_fault, rate_fault, float_at, header_bits, joint_bits}
+use Rattle.card.specs.Parts.{edition_number, sizes_of, card_with, edition_fault, counts_fault, rate_fault, float_at, header_bits, joint_bits}
 use Rattle.card.proofs.Packed.{field}
 use Rattle.card.proofs.Cells.{Row, flat, numbers-append}
-use Rattle.card.proofs.Bools.{or_right}
 use Rattle.card.proofs.Checking.{First, applies, passes, first}
 
--- what holds of the first and of the second holds of each
-pub by_edition : (P : ℕ → Type 0) → P 1 → P 2 → (n : ℕ) → Listed n → P n
-by_edition P one two zero h = absurd (omega (arith, h.0))
-by_edition P one two (suc zero) h = one
-by_edition P one two (suc (suc zero)) h = two
-by_edition P one two (suc (suc (suc n))) h =
-    let most : suc (suc (suc n)) ≤ 2 = h.1 in absurd (omega arith)
-
-pub second : {n : ℕ} → Listed n → (n ≡ 1 → ⊥) → n ≡ 2
-second {n} h other =
-    let most : n ≤ 2 = h.1 in omega (arith, h.0, other)
+-- the cells of an edition
+abbrev pub cells : named.Edition → Edition
+cells e = edition_of (edition_number e)
 
 -- ---- a header
 
@@ -52,23 +45,19 @@ pub record HeaderOf (cs : List Cell) (bytes : ℕ) : Type 0 where
   pub is : cs ≡ header counts rate zeros
   pub whole : width_of (header_cells counts rate zeros) + 64 ≡ 8 * bytes
 
-pub header_of : (n : ℕ) → Listed n → HeaderOf (edition_of n).header (sizes_of n).header_bytes
+pub header_of : (e : named.Edition) → HeaderOf (cells e).header (sizes_of e).header_bytes
 unfolding edition_of sizes_of
-header_of =
-    by_edition (λ n. HeaderOf (edition_of n).header (sizes_of n).header_bytes) (record { counts = 6; rate = 10; zeros = 2; is = refl; whole = refl })
-    (record { counts = 8; rate = 16; zeros = 24; is = refl; whole = refl })
+header_of One = record { counts = 6; rate = 10; zeros = 2; is = refl; whole = refl }
+header_of Two = record { counts = 8; rate = 16; zeros = 24; is = refl; whole = refl }
 
 -- of the edition's header, its last 8 bytes are gravity and warm coefficient
-abbrev pub FloatsLast : ℕ → Type 0
-FloatsLast n =
-    (card : List ℕ)
-    → let ns = numbers_at (edition_of n).header card 0 in
-    let bytes = (sizes_of n).header_bytes in
+pub header_floats : (e : named.Edition) (card : List ℕ)
+    → let ns = numbers_at (cells e).header card 0 in
+    let bytes = (sizes_of e).header_bytes in
     (float ns 5 ≡ float_at card (bytes - 8)) × (float ns 6 ≡ float_at card (bytes - 4))
-
-pub header_floats : (n : ℕ) → Listed n → FloatsLast n
 unfolding edition_of sizes_of numbers_at float_at
-header_floats = by_edition FloatsLast (λ card. (refl, refl)) (λ card. (refl, refl))
+header_floats One card = (refl, refl)
+header_floats Two card = (refl, refl)
 
 -- ---- a joint
 
@@ -90,11 +79,10 @@ pub record JointOf (cs : List Cell) : Type 0 where
   -- a body's number is below 256
   pub few : 2 ^ numbers ≤ 256
 
-pub joint_of_lem : (n : ℕ) → Listed n → JointOf (edition_of n).joint
+pub joint_of_lem : (e : named.Edition) → JointOf (cells e).joint
 unfolding edition_of
-joint_of_lem =
-    by_edition (λ n. JointOf (edition_of n).joint) (record { numbers = 5; zeros = 7; is = refl; whole = refl; few = omega arith })
-    (record { numbers = 8; zeros = 1; is = refl; whole = refl; few = omega arith })
+joint_of_lem One = record { numbers = 5; zeros = 7; is = refl; whole = refl; few = omega arith }
+joint_of_lem Two = record { numbers = 8; zeros = 1; is = refl; whole = refl; few = omega arith }
 
 -- the fields of the word that it begins with
 module _ (l : List ℕ) (numbers zeros : ℕ) (whole : width_of (joint_cells numbers zeros) ≡ 24) {w : ℕ} (e : w ≡ bits_at l 0 24) where
@@ -128,9 +116,10 @@ module _ (l : List ℕ) (numbers zeros : ℕ) (whole : width_of (joint_cells num
       )
       refl
 
-pub joint_width : (n : ℕ) → Listed n → width_of (edition_of n).joint ≡ 8 * 123
+pub joint_width : (e : named.Edition) → width_of (cells e).joint ≡ 8 * 123
 unfolding edition_of
-joint_width = by_edition (λ n. width_of (edition_of n).joint ≡ 8 * 123) refl refl
+joint_width One = refl
+joint_width Two = refl
 
 -- what holds of any numbers before a joint's floats holds of the joint's numbers
 pub joint_numbers_lem : (l : List ℕ) (p : ℕ) (cs : List Cell) → JointOf cs → (P : List ℕ → Type 0)
@@ -144,33 +133,53 @@ joint_numbers_lem l p cs J P h =
 -- ---- sizes
 
 -- in bytes and in bits
-pub header_width : (n : ℕ) → Listed n → 8 * (sizes_of n).header_bytes ≡ width_of (edition_of n).header
+pub header_width : (e : named.Edition) → 8 * (sizes_of e).header_bytes ≡ width_of (cells e).header
 unfolding edition_of sizes_of
-header_width = by_edition (λ n. 8 * (sizes_of n).header_bytes ≡ width_of (edition_of n).header) refl refl
+header_width One = refl
+header_width Two = refl
 
-pub header_bytes_lem : (n : ℕ) → Listed n → (12 ≤ (sizes_of n).header_bytes) × ((sizes_of n).header_bytes ≤ 16)
+pub header_bytes_lem : (e : named.Edition) → (12 ≤ (sizes_of e).header_bytes) × ((sizes_of e).header_bytes ≤ 16)
 unfolding edition_of sizes_of
-header_bytes_lem = by_edition (λ n. (12 ≤ (sizes_of n).header_bytes) × ((sizes_of n).header_bytes ≤ 16)) (omega arith, omega arith) (omega arith, omega arith)
+header_bytes_lem One = (omega arith, omega arith)
+header_bytes_lem Two = (omega arith, omega arith)
 
-pub most_200 : (n : ℕ) → Listed n → (edition_of n).most ≤ 200
+pub most_200 : (e : named.Edition) → (cells e).most ≤ 200
 unfolding edition_of
-most_200 = by_edition (λ n. (edition_of n).most ≤ 200) (omega arith) (omega arith)
+most_200 One = omega arith
+most_200 Two = omega arith
 
-pub fastest_4000 : (n : ℕ) → Listed n → (edition_of n).fastest ≤ 4000
+pub fastest_4000 : (e : named.Edition) → (cells e).fastest ≤ 4000
 unfolding edition_of
-fastest_4000 = by_edition (λ n. (edition_of n).fastest ≤ 4000) (omega arith) (omega arith)
+fastest_4000 One = omega arith
+fastest_4000 Two = omega arith
 
 -- ---- the checks
 
-pub listed : (n : ℕ) → edition_fault n ≡ false → Listed n
+-- a number of the table is an edition's
+pub edition_with : (n : ℕ) → 1 ≤ n → n ≤ 2 → (e : named.Edition) × (edition_number e ≡ n)
+edition_with zero h g = absurd (omega arith)
+edition_with (suc zero) h g = (One, refl)
+edition_with (suc (suc zero)) h g = (Two, refl)
+edition_with (suc (suc (suc n))) h g = absurd (omega arith)
+
+-- one that is of no edition is refused
+pub other : (n : ℕ) → (n ≡ 1 → ⊥) → (n ≡ 2 → ⊥) → edition_fault n ≡ true
 unfolding edition_fault
-listed zero e = absurd (true≢false e)
-listed (suc n) e = (omega arith, ltb-false (length editions) (suc n) (or_right (eqb (suc n) 0) (ltb (length editions) (suc n)) e))
+other zero a b = refl
+other (suc zero) a b = absurd (a refl)
+other (suc (suc zero)) a b = absurd (b refl)
+other (suc (suc (suc n))) a b = rw (ne_eqb (suc (suc (suc n))) 0 (λ z. omega arith), lt-ltb 2 (suc (suc (suc n))) (omega arith)) refl
+
+-- an edition of the table is not refused
+pub listed : (e : named.Edition) → edition_fault (edition_number e) ≡ false
+unfolding edition_fault
+listed One = refl
+listed Two = refl
 
 -- the checks from 3 on
-abbrev pub rest : ℕ → EditionSizes → List ℕ → ℕ → ℕ → ℕ → List Refusal
+abbrev pub rest : named.Edition → EditionSizes → List ℕ → ℕ → ℕ → ℕ → List Refusal
 rest n sizes card bodies joints rate =
-    let e = edition_of n in
+    let e = cells n in
     refuse 3 (counts_fault sizes.most bodies joints) ∷ refuse 4 (rate_fault sizes.fastest rate)
     ∷ refuse 5 (not (eqb (8 * length card) (width_of e.header + 752 * bodies + width_of e.joint * joints)))
     ∷ record_checks e (card_with e card bodies joints)
@@ -183,30 +192,29 @@ module _ (card : List ℕ) where
   unfolding card_of
   card_is = refl
 
-  module _ {n : ℕ} (en : n ≡ bits_at card 0 8) (long : ltb (length card) 12 ≡ false) where
-    pub past_2 : {sizes : EditionSizes} {h : HeaderBits} {answer : ℕ} → sizes ≡ sizes_of n → h ≡ header_bits (numbers_at (edition_of n).header card 0) → edition_fault n ≡ false
-        → First (rest n sizes card h.bodies h.joints h.rate) answer → answer ≡ check_of card
+  module _ (long : ltb (length card) 12 ≡ false) where
+    pub past_2 : (e : named.Edition) {sizes : EditionSizes} {h : HeaderBits} {answer : ℕ} → edition_number e ≡ bits_at card 0 8 → sizes ≡ sizes_of e → h ≡ header_bits (numbers_at (cells e).header card 0)
+        → First (rest e sizes card h.bodies h.joints h.rate) answer → answer ≡ check_of card
     unfolding check_of edition_fault counts_fault rate_fault header_bits sizes_of
-    past_2 {answer = answer} es eh known f =
-        let g : First (rest (bits_at card 0 8) (sizes_of (bits_at card 0 8)) card (at 1 numbers) (at 2 numbers) (at 3 numbers)) answer = rw (es, eh, en) at f in
-        let all : First (card_checks (edition_at card) card (card_of card)) answer = rw card_is (passes long (passes (rw en at known) g)) in
+    past_2 e {answer = answer} en es eh f =
+        let all : First (card_checks (edition_at card) card (card_of card)) answer = rw card_is (passes long (passes (rw en at (listed e)) (rw (es, eh, en) at f))) in
         first all
 
-    pub other_edition : edition_fault n ≡ true → 2 ≡ check_of card
+    pub other_edition : edition_fault (bits_at card 0 8) ≡ true → 2 ≡ check_of card
     unfolding check_of edition_fault
     other_edition other =
-        let all : First (card_checks (edition_at card) card (card_of card)) 2 = passes long (applies (rw en at other)) in first all
+        let all : First (card_checks (edition_at card) card (card_of card)) 2 = passes long (applies other) in first all
 
 -- a length in bytes, and in bits
-module _ {n : ℕ} (known : Listed n) {sizes : EditionSizes} (e : sizes ≡ sizes_of n) (size bodies joints : ℕ) where
+module _ (n : named.Edition) {sizes : EditionSizes} (e : sizes ≡ sizes_of n) (size bodies joints : ℕ) where
   abbrev bytes_length : ℕ
   bytes_length = sizes.header_bytes + 94 * bodies + 123 * joints
 
   abbrev bits_length : ℕ
-  bits_length = width_of (edition_of n).header + 752 * bodies + width_of (edition_of n).joint * joints
+  bits_length = width_of (cells n).header + 752 * bodies + width_of (cells n).joint * joints
 
   in_bits : 8 * bytes_length ≡ bits_length
-  in_bits = rw (e, ← (header_width n known), joint_width n known) (omega arith)
+  in_bits = rw (e, ← (header_width n), joint_width n) (omega arith)
 
   pub right_length : size ≡ bytes_length → not (eqb (8 * size) bits_length) ≡ false
   right_length r = rw (eq-eqb (8 * size) bits_length (ap (λ m. 8 * m) r ∙ in_bits)) refl

@@ -1,5 +1,5 @@
 pub mod Bools
-pub mod Floats
+pub mod Refusals
 pub mod Checking
 pub mod Loops
 pub mod Packed
@@ -8,7 +8,6 @@ pub mod Editions
 pub mod Cut
 pub mod Faulty
 pub mod RecordFaults
-pub mod Pairs
 pub mod Unused
 pub mod CheckRows
 pub mod Accepted

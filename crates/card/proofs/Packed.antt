@@ -63,22 +63,12 @@ module _ (l : List ℕ) where
       let q7 : bit (8 * at + 7) ≡ b / 1 % 2 = bit_of_lem at b 7 e (omega arith) in
       rw (eight at, q0, q1, q2, q3, q4, q5, q6, q7) (sym (eight_bits b h))
 
-  pub bytes2 : (at : ℕ) {b0 b1 : ℕ} → (b0 ≡ get_or l at 0) × (b0 < 256) → (b1 ≡ get_or l (at + 1) 0) × (b1 < 256) → b0 * 256 + b1 ≡ bits_at l (8 * at) 16
-  bytes2 at {b0} {b1} h0 h1 =
-      let e : 8 * at + 8 ≡ 8 * (at + 1) = omega arith in
-      rw (split (8 * at) 8 8, e, ← (byte at b0 h0.0 h0.1), ← (byte (at + 1) b1 h1.0 h1.1))
-
-  pub bytes3 : (at : ℕ) {b0 b1 b2 : ℕ} → (b0 ≡ get_or l at 0) × (b0 < 256) → (b1 ≡ get_or l (at + 1) 0) × (b1 < 256) → (b2 ≡ get_or l (at + 2) 0) × (b2 < 256)
-      → (b0 * 256 + b1) * 256 + b2 ≡ bits_at l (8 * at) 24
-  bytes3 at {b0} {b1} {b2} h0 h1 h2 =
-      let e : 8 * at + 16 ≡ 8 * (at + 2) = omega arith in
-      rw (split (8 * at) 16 8, e, ← (bytes2 at h0 h1), ← (byte (at + 2) b2 h2.0 h2.1))
-
-  pub bytes4 : (at : ℕ) {b0 b1 b2 b3 : ℕ} → (b0 ≡ get_or l at 0) × (b0 < 256) → (b1 ≡ get_or l (at + 1) 0) × (b1 < 256) → (b2 ≡ get_or l (at + 2) 0) × (b2 < 256)
-      → (b3 ≡ get_or l (at + 3) 0) × (b3 < 256) → ((b0 * 256 + b1) * 256 + b2) * 256 + b3 ≡ bits_at l (8 * at) 32
-  bytes4 at {b0} {b1} {b2} {b3} h0 h1 h2 h3 =
-      let e : 8 * at + 24 ≡ 8 * (at + 3) = omega arith in
-      rw (split (8 * at) 24 8, e, ← (bytes3 at h0 h1 h2), ← (byte (at + 3) b3 h3.0 h3.1))
+  -- a byte behind n others
+  pub next_byte : (at n : ℕ) {a b : ℕ} → a ≡ bits_at l (8 * at) (8 * n) → b ≡ bits_at l (8 * (at + n)) 8
+      → (a * 256 + b ≡ bits_at l (8 * at) (8 * n + 8)) × (a < 2 ^ (8 * n)) × (b < 256)
+  next_byte at n {a} {b} ea eb =
+      let e : 8 * at + 8 * n ≡ 8 * (at + n) = omega arith in
+      (rw (ea, eb, split (8 * at) (8 * n) 8, e) refl, rw ea (below (8 * at) (8 * n)), rw eb (below (8 * (at + n)) 8))
 
   -- the n bits behind the first m of a word w, with k more behind them
   pub field : {w : ℕ} (p m n k : ℕ) → w ≡ bits_at l p (m + n + k) → w / 2 ^ k % 2 ^ n ≡ bits_at l (p + m) n

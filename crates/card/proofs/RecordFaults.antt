@@ -109,7 +109,7 @@ module _ (l : List ℕ) where
   unfolding field_faults outside_at out_of body_bits
   body_beyond = record_fieldwise (beyond body_numbers_lem) l body_cells body_rows
 
-  pub body_is : let g = body_fields l (body_bits body_numbers_lem) in faults g.bits g.dominance g.floats false false (off_unit (norm_squared_of (quat_at l 14))) ≡ body_faults body_numbers_lem
+  pub body_is : let g = body_fields l (body_bits body_numbers_lem) in faults g.bits g.dominance g.floats g.angles g.limits (off_unit (norm_squared_of (quat_at l 14))) ≡ body_faults body_numbers_lem
   unfolding body_faults field_faults quat_at float_at numbers_at body_bits
   body_is = rw (body_unused, body_beyond) refl
 
@@ -192,7 +192,7 @@ pub joint_are : (l : List ℕ) (cs : List Cell) → JointOf cs → {b : JointBit
     → f11 ≡ field_faults f10 l (is_set b.motor) f0 largest 111 1
     → f12 ≡ field_faults f11 l (is_set b.motor) (neg bound) bound 115 2
     → s ≡ wide_at l 87 → t ≡ wide_at l 95 → u ≡ limit_at l 87 → v ≡ limit_at l 95 → w ≡ norms_at l k.bases k.axis
-    → faults (f12.bits || not k.fits) false f12.floats (k.angles && (s || t)) (u || v) w ≡ joint_faults cs (numbers_at cs l 0)
-unfolding joint_bits
+    → faults (f12.bits || not k.fits) f12.dominance f12.floats (k.angles && (s || t)) (u || v) w ≡ joint_faults cs (numbers_at cs l 0)
+unfolding joint_bits field_faults
 joint_are l cs J eb ek e1 e2 e3 e4 e5 e6 e7 e8 e9 e10 e11 e12 es et eu ev ew =
     rw (e12, e11, e10, e9, e8, e7, e6, e5, e4, e3, e2, e1, es, et, eu, ev, ew, ek, eb) (joint_is l cs J)

@@ -1,5 +1,6 @@
 -- What the parts of the checks hand to each other, for their own contracts: the definitions that are read need none of it.
-use Rattle.std.specs.Prelude.{ℕ, zero, suc, ◌+◌, ◌*◌, ◌/◌, ◌≤◌, Bool, false, not, ◌||◌, ◌&&◌, List, length, eqb, ltb, Float}
+use Rattle.std.specs.Prelude.{ℕ, ◌+◌, ◌*◌, ◌/◌, Bool, false, not, ◌||◌, ◌&&◌, List, length, eqb, ltb, Float}
+use Rattle.std.specs.List.{list_any, range_with_len}
 use Rattle.std.specs.Float.Ieee.{neg, lt}
 use Rattle.scalar.specs.Arith.{f32, f7}
 use Rattle.scalar.specs.Scalar.{outside}
@@ -7,6 +8,8 @@ use Rattle.vector.specs.Vector.{length_squared_of}
 use Rattle.vector.specs.Rotation.{norm_squared_of}
 use Rattle.vector.specs.declared.Vec3.{Vec3}
 use Rattle.vector.specs.declared.Quat.{Quat}
+use Rattle.card.specs.declared.edition.Edition as named
+use Rattle.card.specs.declared.edition.Edition.TheVariants.{One, Two}
 use Rattle.card.specs.declared.edition.EditionSizes.{EditionSizes}
 use Rattle.card.specs.declared.kinds.JointKind.{JointKind}
 use Rattle.card.specs.declared.records.HeaderBits.{HeaderBits}
@@ -15,14 +18,14 @@ use Rattle.card.specs.declared.records.JointBits.{JointBits}
 use Rattle.card.specs.declared.checks.Faults.{Faults}
 use Rattle.card.specs.Format.{bits_at, Cell, width_of, numbers_at, records_at, any_cell, unused_set, out_of}
 use Rattle.card.specs.Card.{at, flag, body, kind_at, Edition, editions, edition_of, Card, quat}
-use Rattle.card.specs.Checks.{any, misfit, dominant, too_wide, reversed, off_unit, off_axis, wrong_pair}
+use Rattle.card.specs.Checks.{any, misfit, dominant, too_wide, reversed, off_unit, off_axis}
 
--- the number of an edition of the table
-abbrev pub Listed : ℕ → Type 0
-Listed n = (1 ≤ n) × (n ≤ length editions)
+abbrev pub edition_number : named.Edition → ℕ
+edition_number One = 1
+edition_number Two = 2
 
-unfoldable pub sizes_of : ℕ → EditionSizes
-sizes_of n = let e = edition_of n in record { header_bytes = width_of e.header / 8; most = e.most; fastest = e.fastest }
+unfoldable pub sizes_of : named.Edition → EditionSizes
+sizes_of n = let e = edition_of (edition_number n) in record { header_bytes = width_of e.header / 8; most = e.most; fastest = e.fastest }
 
 -- a card with so many bodies and joints
 abbrev pub card_with : Edition → List ℕ → ℕ → ℕ → Card
@@ -84,18 +87,14 @@ kind_for k first second motor =
     kind_with r.bases r.axis r.angles r.compliances (r.fits first second motor)
 
 unfoldable pub any_to : (ℕ → Bool) → ℕ → Bool
-any_to p zero = false
-any_to p (suc n) = any_to p n || p n
+any_to p n = list_any p (range_with_len 0 n)
 
 -- word n of those at a place is set, or is out of bounds
-abbrev pub word_at : List ℕ → ℕ → ℕ → ℕ
-word_at part at n = bits_at part (8 * at + 32 * n) 32
-
 unfoldable pub set_at : List ℕ → ℕ → ℕ → Bool
-set_at part at n = not (eqb (word_at part at n) 0)
+set_at part at n = not (eqb (bits_at part (8 * at + 32 * n) 32) 0)
 
 unfoldable pub outside_at : List ℕ → Float → Float → ℕ → ℕ → Bool
-outside_at part low high at n = outside (f32 (word_at part at n)) low high
+outside_at part low high at n = outside (f32 (bits_at part (8 * at + 32 * n) 32)) low high
 
 abbrev pub faults : Bool → Bool → Bool → Bool → Bool → Bool → Faults
 faults b d f g l n = record { bits = b; dominance = d; floats = f; angles = g; limits = l; norms = n }
@@ -122,6 +121,3 @@ joint_faults cs ns = faults (unused_set cs ns || misfit ns) false (used_out cs n
 
 unfoldable pub faults_of : (List ℕ → Faults) → List (List ℕ) → Faults
 faults_of f l = faults (any (λ r. (f r).bits) l) (any (λ r. (f r).dominance) l) (any (λ r. (f r).floats) l) (any (λ r. (f r).angles) l) (any (λ r. (f r).limits) l) (any (λ r. (f r).norms) l)
-
-unfoldable pub pair_of : List (List ℕ) → List ℕ → Bool
-pair_of bodies j = wrong_pair bodies (at 1 j) (at 2 j)

@@ -1,24 +1,25 @@
 // The refusals of a card. The records are looked at once, each for all that is checked of it; the answer is the first check that a record fails.
-ghost use Rattle.std.specs.Prelude.{◌≡◌, ◌+◌, ◌*◌, ◌≤◌, ◌<◌, length};
+ghost use Rattle.std.specs.Prelude.{◌≡◌, ◌+◌, ◌*◌, ◌≤◌, ◌<◌, length, IfOk};
 ghost use Rattle.vector.specs.Vector.{length_squared_of};
 ghost use Rattle.vector.specs.Rotation.{norm_squared_of};
 ghost use Rattle.card.specs.Format.{numbers_at, records_at};
-ghost use Rattle.card.specs.Card.{body, edition_of};
+ghost use Rattle.card.specs.Card.{at, body, edition_of};
 ghost use Rattle.card.specs.Answer.{number_of};
 ghost use Rattle.card.specs.Checks.{any, off_unit, wrong_pair, first_of, record_checks, check_of};
-ghost use Rattle.card.specs.Parts.{Listed, sizes_of, card_with, edition_fault, counts_fault, rate_fault, any_to, set_at, outside_at, or_faults, field_faults, header_faults, body_faults, joint_faults, faults_of, wide_at, limit_at, norms_at, pair_of};
+ghost use Rattle.card.specs.Parts.{edition_number, sizes_of, card_with, counts_fault, rate_fault, any_to, set_at, outside_at, or_faults, field_faults, header_faults, body_faults, joint_faults, faults_of, wide_at, limit_at, norms_at};
 
-use crate::answer::Answer;
+use crate::accepted_card::Accepted;
 use crate::bits::{bits8_at, bits32_at, float_at, quat_at, vec3_at};
-use crate::edition::{LAST_EDITION, sizes_of};
+use crate::edition::Edition;
 use crate::kinds::kind_of;
 use crate::layout::{
-    ANCHOR1, AXIS, BASIS1, BASIS2, BODY_BYTES, BOUND, COMPLIANCES, GRAVITY, INV_INERTIA, INV_MASS,
-    JOINT_BYTES, LEAST_BYTES, LIMIT1, LIMIT2, LINEAR_VELOCITY, MOTOR, POSITION, ROTATION, SLOWEST,
-    WARM_COEFFICIENT, WIDEST_ANGLE,
+    ANCHOR1, AXIS, BASIS1, BASIS2, BODY_BYTES, BOUNDED, Bounds, CAP, COMPLIANCES, GRAVITY,
+    INV_INERTIA, INV_MASS, JOINT_BYTES, LEAST_BYTES, LIMIT1, LIMIT2, LINEAR_VELOCITY, MOTOR,
+    NOT_NEGATIVE, POSITION, ROTATION, SLOWEST, WARM_COEFFICIENT, WIDEST_ANGLE,
 };
 use crate::records::{body_bits, header_bits, joint_bits};
-use scalar::{MAX, outside};
+use crate::refusal::Refusal;
+use scalar::outside;
 use vector::{Quat, Vec3};
 
 // Whether a bit of so many floats is set.
@@ -26,29 +27,15 @@ fn any_set(part: &[u8], at: usize, count: usize) -> bool
     requires { at + 4 * count ≤ length part.now }
     ensures { result ≡ any_to (set_at part.now at) count }
 {
-    let mut n = 0;
-    while n < count {
-        if bits32_at(part, at + 4 * n) != 0 {
-            return true;
-        }
-        n += 1;
-    }
-    false
+    (0..count).any(|n| bits32_at(part, at + 4 * n) != 0)
 }
 
 // Whether one of so many floats is out of bounds.
-fn any_outside(part: &[u8], low: f32, high: f32, at: usize, count: usize) -> bool
+fn any_outside(part: &[u8], bounds: Bounds, at: usize, count: usize) -> bool
     requires { at + 4 * count ≤ length part.now }
-    ensures { result ≡ any_to (outside_at part.now low high at) count }
+    ensures { result ≡ any_to (outside_at part.now bounds.low bounds.high at) count }
 {
-    let mut n = 0;
-    while n < count {
-        if outside(float_at(part, at + 4 * n), low, high) {
-            return true;
-        }
-        n += 1;
-    }
-    false
+    (0..count).any(|n| outside(float_at(part, at + 4 * n), bounds.low, bounds.high))
 }
 
 // Which of the checks a record fails by itself, or one of several records.
@@ -69,6 +56,16 @@ pub struct Faults {
 }
 
 impl Faults {
+    const NONE: Faults = Faults {
+        bits: false,
+        dominance: false,
+        floats: false,
+        angles: false,
+        limits: false,
+        norms: false,
+    };
+
+    #[tactic(auto, unfolding(crate::specs::Parts::or_faults))]
     fn or(self, other: Faults) -> Faults
         ensures { result ≡ or_faults self other }
     {
@@ -83,50 +80,39 @@ impl Faults {
     }
 
     // With the faults of so many floats, which have use or not, and bounds. Without use a float is zero, and so in bounds, or it is refused by 6 before 7.
-    fn field(self, part: &[u8], used: bool, low: f32, high: f32, at: usize, count: usize) -> Faults
+    fn field(self, part: &[u8], used: bool, bounds: Bounds, at: usize, count: usize) -> Faults
         requires { at + 4 * count ≤ length part.now }
-        ensures { result ≡ field_faults self part.now used low high at count }
+        ensures { result ≡ field_faults self part.now used bounds.low bounds.high at count }
     {
         if used {
             return Faults {
-                bits: self.bits,
-                dominance: self.dominance,
-                floats: self.floats | any_outside(part, low, high, at, count),
-                angles: self.angles,
-                limits: self.limits,
-                norms: self.norms,
+                floats: self.floats | any_outside(part, bounds, at, count),
+                ..self
             };
         }
         Faults {
             bits: self.bits | any_set(part, at, count),
-            dominance: self.dominance,
-            floats: self.floats,
-            angles: self.angles,
-            limits: self.limits,
-            norms: self.norms,
+            ..self
         }
     }
 }
 
-fn header_faults(part: &[u8], edition: u32) -> Faults
-    requires { Listed edition × ((sizes_of edition).header_bytes ≤ length part.now) }
-    ensures { result ≡ header_faults (edition_of edition).header (numbers_at (edition_of edition).header part.now 0) }
+fn header_faults(part: &[u8], edition: Edition) -> Faults
+    requires { (sizes_of edition).header_bytes ≤ length part.now }
+    ensures { result ≡ header_faults (edition_of (edition_number edition)).header (numbers_at (edition_of (edition_number edition)).header part.now 0) }
 {
     let h = header_bits(part, edition);
-    let end = sizes_of(edition).header_bytes;
+    let end = edition.sizes().header_bytes;
     let f = Faults {
         bits: h.zero != 0,
-        dominance: false,
-        floats: false,
-        angles: false,
-        limits: false,
-        norms: false,
+        ..Faults::NONE
     };
-    f.field(part, true, -BOUND, BOUND, end - GRAVITY, 1)
-        .field(part, true, 0.0, BOUND, end - WARM_COEFFICIENT, 1)
+    f.field(part, true, BOUNDED, end - GRAVITY, 1)
+        .field(part, true, NOT_NEGATIVE, end - WARM_COEFFICIENT, 1)
 }
 
 // Whether a sum of squares is outside 1 ± 2^-10.
+#[tactic(auto, unfolding(crate::specs::Checks::off_unit))]
 fn off_unit(s: f32) -> bool
     ensures { result ≡ off_unit s }
 {
@@ -155,27 +141,21 @@ fn body_faults(part: &[u8]) -> Faults
     let f = Faults {
         bits: b.anchored & (locked | (b.dominance != 0)) | (b.zero != 0),
         dominance: b.dominance != 0,
-        floats: false,
-        angles: false,
-        limits: false,
-        norms: false,
+        ..Faults::NONE
     };
     let g = f
-        .field(part, true, -BOUND, BOUND, POSITION, 10)
-        .field(part, moving, -BOUND, BOUND, LINEAR_VELOCITY, 6)
-        .field(part, moving, 0.0, BOUND, INV_MASS, 1)
-        .field(part, moving, -BOUND, BOUND, INV_INERTIA, 6);
+        .field(part, true, BOUNDED, POSITION, 10)
+        .field(part, moving, BOUNDED, LINEAR_VELOCITY, 6)
+        .field(part, moving, NOT_NEGATIVE, INV_MASS, 1)
+        .field(part, moving, BOUNDED, INV_INERTIA, 6);
     Faults {
-        bits: g.bits,
-        dominance: g.dominance,
-        floats: g.floats,
-        angles: false,
-        limits: false,
         norms: rotation_fault(quat_at(part, ROTATION)),
+        ..g
     }
 }
 
 // Whether the min at a place or the max behind it is over the largest angle in size.
+#[tactic(auto, unfolding(crate::specs::Parts::wide_at))]
 fn wide_fault(part: &[u8], at: usize) -> bool
     requires { at + 8 ≤ length part.now }
     ensures { result ≡ wide_at part.now at }
@@ -186,6 +166,7 @@ fn wide_fault(part: &[u8], at: usize) -> bool
 }
 
 // Whether the min at a place is above the max behind it.
+#[tactic(auto, unfolding(crate::specs::Parts::limit_at))]
 fn limit_fault(part: &[u8], at: usize) -> bool
     requires { at + 8 ≤ length part.now }
     ensures { result ≡ limit_at part.now at }
@@ -193,6 +174,7 @@ fn limit_fault(part: &[u8], at: usize) -> bool
     float_at(part, at) > float_at(part, at + 4)
 }
 
+#[tactic(auto, unfolding(crate::specs::Parts::norms_at))]
 fn norms_fault(part: &[u8], bases: bool, axis: bool) -> bool
     requires { 123 ≤ length part.now }
     ensures { result ≡ norms_at part.now bases axis }
@@ -202,9 +184,9 @@ fn norms_fault(part: &[u8], bases: bool, axis: bool) -> bool
     bases & (first | second) | axis & axis_fault(vec3_at(part, AXIS))
 }
 
-fn joint_faults(part: &[u8], edition: u32) -> Faults
-    requires { Listed edition × (123 ≤ length part.now) }
-    ensures { result ≡ joint_faults (edition_of edition).joint (numbers_at (edition_of edition).joint part.now 0) }
+fn joint_faults(part: &[u8], edition: Edition) -> Faults
+    requires { 123 ≤ length part.now }
+    ensures { result ≡ joint_faults (edition_of (edition_number edition)).joint (numbers_at (edition_of (edition_number edition)).joint part.now 0) }
 {
     let b = joint_bits(part, edition);
     let motor = b.motor != 0;
@@ -212,80 +194,54 @@ fn joint_faults(part: &[u8], edition: u32) -> Faults
     let many = kind.compliances;
     let f = Faults {
         bits: b.zero != 0,
-        dominance: false,
-        floats: false,
-        angles: false,
-        limits: false,
-        norms: false,
+        ..Faults::NONE
     };
     let g = f
-        .field(part, true, -BOUND, BOUND, ANCHOR1, 6)
-        .field(part, kind.bases, -BOUND, BOUND, BASIS1, 8)
-        .field(part, kind.axis, -BOUND, BOUND, AXIS, 3)
-        .field(part, 0 < many, 0.0, BOUND, COMPLIANCES, 1)
-        .field(part, 1 < many, 0.0, BOUND, COMPLIANCES + 4, 1)
-        .field(part, 2 < many, 0.0, BOUND, COMPLIANCES + 8, 1)
-        .field(part, 3 < many, 0.0, BOUND, COMPLIANCES + 12, 1)
-        .field(part, b.first, -BOUND, BOUND, LIMIT1, 2)
-        .field(part, b.second, -BOUND, BOUND, LIMIT2, 2)
+        .field(part, true, BOUNDED, ANCHOR1, 6)
+        .field(part, kind.bases, BOUNDED, BASIS1, 8)
+        .field(part, kind.axis, BOUNDED, AXIS, 3)
+        .field(part, 0 < many, NOT_NEGATIVE, COMPLIANCES, 1)
+        .field(part, 1 < many, NOT_NEGATIVE, COMPLIANCES + 4, 1)
+        .field(part, 2 < many, NOT_NEGATIVE, COMPLIANCES + 8, 1)
+        .field(part, 3 < many, NOT_NEGATIVE, COMPLIANCES + 12, 1)
+        .field(part, b.first, BOUNDED, LIMIT1, 2)
+        .field(part, b.second, BOUNDED, LIMIT2, 2)
         // target velocity and position, cap, two model floats
-        .field(part, motor, -BOUND, BOUND, MOTOR, 2)
-        .field(part, motor, 0.0, MAX, MOTOR + 8, 1)
-        .field(part, motor, -BOUND, BOUND, MOTOR + 12, 2);
+        .field(part, motor, BOUNDED, MOTOR, 2)
+        .field(part, motor, CAP, MOTOR + 8, 1)
+        .field(part, motor, BOUNDED, MOTOR + 12, 2);
     Faults {
         bits: g.bits | !kind.fits,
-        dominance: false,
-        floats: g.floats,
         angles: kind.angles & (wide_fault(part, LIMIT1) | wide_fault(part, LIMIT2)),
         limits: limit_fault(part, LIMIT1) | limit_fault(part, LIMIT2),
         norms: norms_fault(part, kind.bases, kind.axis),
+        ..g
     }
 }
 
 // Of so many bodies from `at` on.
+// The loop stands twice, for bodies and joints: over a closure its contract would be longer than both loops.
 fn bodies_faults(card: &[u8], at: usize, count: usize) -> Faults
     requires { at + 94 * count ≤ length card.now }
     ensures { result ≡ faults_of body_faults (records_at body card.now (8 * at) count) }
 {
-    let mut f = Faults {
-        bits: false,
-        dominance: false,
-        floats: false,
-        angles: false,
-        limits: false,
-        norms: false,
-    };
-    let mut from = at;
-    let mut left = count;
-    while 0 < left {
-        let end = from + BODY_BYTES;
-        f = f.or(body_faults(&card[from..end]));
-        from = end;
-        left -= 1;
+    let mut f = Faults::NONE;
+    for i in 0..count {
+        let from = at + BODY_BYTES * i;
+        f = f.or(body_faults(&card[from..from + BODY_BYTES]));
     }
     f
 }
 
 // Of so many joints from `at` on.
-fn joints_faults(card: &[u8], edition: u32, at: usize, count: usize) -> Faults
-    requires { Listed edition × (at + 123 * count ≤ length card.now) }
-    ensures { result ≡ faults_of (joint_faults (edition_of edition).joint) (records_at (edition_of edition).joint card.now (8 * at) count) }
+fn joints_faults(card: &[u8], edition: Edition, at: usize, count: usize) -> Faults
+    requires { at + 123 * count ≤ length card.now }
+    ensures { result ≡ faults_of (joint_faults (edition_of (edition_number edition)).joint) (records_at (edition_of (edition_number edition)).joint card.now (8 * at) count) }
 {
-    let mut f = Faults {
-        bits: false,
-        dominance: false,
-        floats: false,
-        angles: false,
-        limits: false,
-        norms: false,
-    };
-    let mut from = at;
-    let mut left = count;
-    while 0 < left {
-        let end = from + JOINT_BYTES;
-        f = f.or(joint_faults(&card[from..end], edition));
-        from = end;
-        left -= 1;
+    let mut f = Faults::NONE;
+    for j in 0..count {
+        let from = at + JOINT_BYTES * j;
+        f = f.or(joint_faults(&card[from..from + JOINT_BYTES], edition));
     }
     f
 }
@@ -311,45 +267,34 @@ fn pair_fault(card: &[u8], at: usize, bodies: usize, a: usize, b: usize) -> bool
     anchored_a & anchored_b
 }
 
-// Whether one of so many joints from `from` on names its bodies wrongly.
+// Whether one of so many joints from a place on names its bodies wrongly.
 fn any_pair_fault(
     card: &[u8],
-    edition: u32,
-    at: usize,
+    edition: Edition,
+    bodies_at: usize,
     bodies: usize,
-    first: usize,
+    joints_at: usize,
     joints: usize,
 ) -> bool
-    requires { Listed edition × (at + 94 * bodies ≤ length card.now) × (first + 123 * joints ≤ length card.now) }
-    ensures { result ≡ any (pair_of (records_at body card.now (8 * at) bodies)) (records_at (edition_of edition).joint card.now (8 * first) joints) }
+    requires { (bodies_at + 94 * bodies ≤ length card.now) × (joints_at + 123 * joints ≤ length card.now) }
+    ensures { result ≡ any (λ j. wrong_pair (records_at body card.now (8 * bodies_at) bodies) (at 1 j) (at 2 j)) (records_at (edition_of (edition_number edition)).joint card.now (8 * joints_at) joints) }
 {
-    let mut from = first;
-    let mut left = joints;
-    while 0 < left {
-        let end = from + JOINT_BYTES;
-        let b = joint_bits(&card[from..end], edition);
-        if pair_fault(card, at, bodies, b.body1, b.body2) {
-            return true;
-        }
-        from = end;
-        left -= 1;
-    }
-    false
-}
-
-fn edition_fault(edition: u32) -> bool
-    ensures { result ≡ edition_fault edition }
-{
-    (edition == 0) | (LAST_EDITION < edition)
+    (0..joints).any(|j| {
+        let from = joints_at + JOINT_BYTES * j;
+        let b = joint_bits(&card[from..from + JOINT_BYTES], edition);
+        pair_fault(card, bodies_at, bodies, b.body1, b.body2)
+    })
 }
 
 // No bodies, or too many bodies or joints.
+#[tactic(auto, unfolding(crate::specs::Parts::counts_fault))]
 fn counts_fault(most: usize, bodies: usize, joints: usize) -> bool
     ensures { result ≡ counts_fault most bodies joints }
 {
     (bodies == 0) | (most < bodies) | (most < joints)
 }
 
+#[tactic(auto, unfolding(crate::specs::Parts::rate_fault))]
 fn rate_fault(fastest: u32, rate: u32) -> bool
     ensures { result ≡ rate_fault fastest rate }
 {
@@ -357,62 +302,61 @@ fn rate_fault(fastest: u32, rate: u32) -> bool
 }
 
 // The checks from 6 on, of a card with so many bodies and joints.
-fn check_records(card: &[u8], edition: u32, bodies: usize, joints: usize) -> Answer
-    requires { Listed edition × (length card.now ≡ (sizes_of edition).header_bytes + 94 * bodies + 123 * joints) }
-    ensures { number_of result ≡ first_of (record_checks (edition_of edition) (card_with (edition_of edition) card.now bodies joints)) }
+fn check_records(card: &[u8], edition: Edition, bodies: usize, joints: usize) -> Result<(), Refusal>
+    requires { length card.now ≡ (sizes_of edition).header_bytes + 94 * bodies + 123 * joints }
+    ensures { number_of result ≡ first_of (record_checks (edition_of (edition_number edition)) (card_with (edition_of (edition_number edition)) card.now bodies joints)) }
 {
-    let at = sizes_of(edition).header_bytes;
+    let at = edition.sizes().header_bytes;
     let first = at + BODY_BYTES * bodies;
     let h = header_faults(card, edition);
     let b = bodies_faults(card, at, bodies);
     let j = joints_faults(card, edition, first, joints);
     if h.bits | b.bits | j.bits {
-        return Answer::UnusedBits;
+        return Err(Refusal::UnusedBits);
     }
     if b.dominance {
-        return Answer::Dominance;
+        return Err(Refusal::Dominance);
     }
     if h.floats | b.floats | j.floats {
-        return Answer::FloatOutOfRange;
+        return Err(Refusal::FloatOutOfRange);
     }
     if j.angles {
-        return Answer::AngleLimit;
+        return Err(Refusal::AngleLimit);
     }
     if j.limits {
-        return Answer::LimitOrder;
+        return Err(Refusal::LimitOrder);
     }
     if b.norms | j.norms {
-        return Answer::NotUnit;
+        return Err(Refusal::NotUnit);
     }
     if any_pair_fault(card, edition, at, bodies, first, joints) {
-        return Answer::WrongBodies;
+        return Err(Refusal::WrongBodies);
     }
-    Answer::Done
+    Ok(())
 }
 
-// The first of the refusals that applies to the card.
-pub fn check(card: &[u8]) -> Answer
-    ensures { number_of result ≡ check_of card.now }
+// The card, or the first of the refusals that applies to it.
+pub fn check(card: &[u8]) -> Result<Accepted<'_>, Refusal>
+    ensures number { number_of result ≡ check_of card.now }
+    ensures bytes { IfOk result (λ accepted. accepted.bytes.now ≡ card.now) }
 {
     if card.len() < LEAST_BYTES {
-        return Answer::ShortCard;
+        return Err(Refusal::ShortCard);
     }
-    let edition = bits8_at(card, 0);
-    if edition_fault(edition) {
-        return Answer::WrongEdition;
-    }
-    let sizes = sizes_of(edition);
+    let edition = Edition::try_from(bits8_at(card, 0))?;
+    let sizes = edition.sizes();
     let h = header_bits(card, edition);
     let bodies = h.bodies;
     let joints = h.joints;
     if counts_fault(sizes.most, bodies, joints) {
-        return Answer::WrongCounts;
+        return Err(Refusal::WrongCounts);
     }
     if rate_fault(sizes.fastest, h.rate) {
-        return Answer::WrongRate;
+        return Err(Refusal::WrongRate);
     }
     if card.len() != sizes.header_bytes + BODY_BYTES * bodies + JOINT_BYTES * joints {
-        return Answer::WrongLength;
+        return Err(Refusal::WrongLength);
     }
-    check_records(card, edition, bodies, joints)
+    check_records(card, edition, bodies, joints)?;
+    Ok(Accepted { bytes: card })
 }

@@ -1,6 +1,18 @@
-// What each edition has of its own: document 01, 'The card' and 'Turned back', and document 02, point 4.
-ghost use Rattle.std.specs.Prelude.{◌≡◌};
-ghost use Rattle.card.specs.Parts.{Listed, sizes_of};
+// The editions, and what each has of its own: document 01, 'The card' and 'Turned back', and document 02, point 4.
+ghost use Rattle.std.specs.Prelude.{◌≡◌, IsTrue, MatchResult};
+ghost use Rattle.card.specs.declared.refusal.Refusal.TheVariants.{WrongEdition};
+ghost use Rattle.card.specs.Format.{bits_at};
+ghost use Rattle.card.specs.Parts.{edition_number, edition_fault, sizes_of};
+
+use crate::accepted_card::Accepted;
+use crate::bits::bits8_at;
+use crate::refusal::Refusal;
+
+#[derive(Clone, Copy)]
+pub enum Edition {
+    One = 1,
+    Two = 2,
+}
 
 #[derive(Clone, Copy)]
 pub struct EditionSizes {
@@ -10,22 +22,48 @@ pub struct EditionSizes {
     pub fastest: u32,
 }
 
-pub const LAST_EDITION: u32 = 2;
+impl TryFrom<u32> for Edition {
+    type Error = Refusal;
 
-pub fn sizes_of(edition: u32) -> EditionSizes
-    requires { Listed edition }
-    ensures { result ≡ sizes_of edition }
-{
-    if edition == 1 {
-        return EditionSizes {
-            header_bytes: 12,
-            most: 32,
-            fastest: 1000,
-        };
+    ghost try_from_gives = { λ n r. MatchResult r (λ edition. edition_number edition ≡ n) (λ refusal. (refusal ≡ WrongEdition) × IsTrue (edition_fault n)) };
+
+    fn try_from(n: u32) -> Result<Edition, Refusal> {
+        match n {
+            1 => Ok(Edition::One),
+            2 => Ok(Edition::Two),
+            _ => Err(Refusal::WrongEdition),
+        }
     }
-    EditionSizes {
-        header_bytes: 16,
-        most: 200,
-        fastest: 4000,
+}
+
+impl Edition {
+    pub fn of(card: Accepted) -> Edition
+        ensures { edition_number result ≡ bits_at card.entry.bytes.now 0 8 }
+    {
+        Edition::try_from(bits8_at(card.bytes, 0)).unwrap()
+    }
+
+    pub fn number(self) -> u32
+        ensures { result ≡ edition_number self }
+    {
+        self as u32
+    }
+
+    #[tactic(auto, unfolding(crate::specs::Parts::sizes_of, crate::specs::Card::edition_of))]
+    pub fn sizes(self) -> EditionSizes
+        ensures { result ≡ sizes_of self }
+    {
+        match self {
+            Edition::One => EditionSizes {
+                header_bytes: 12,
+                most: 32,
+                fastest: 1000,
+            },
+            Edition::Two => EditionSizes {
+                header_bytes: 16,
+                most: 200,
+                fastest: 4000,
+            },
+        }
     }
 }

@@ -13,6 +13,7 @@ pub struct JointKind {
     pub fits: bool,
 }
 
+// By place, so that a kind is one line below.
 fn kind_with(bases: bool, axis: bool, angles: bool, compliances: u32, fits: bool) -> JointKind
     ensures { result ≡ kind_with bases axis angles compliances fits }
 {

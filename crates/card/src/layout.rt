@@ -1,4 +1,6 @@
 // The sizes of document 01, 'The card' and 'Turned back', in bytes, and where each field stands in its record.
+use scalar::MAX;
+
 // Of a card of any edition.
 pub const LEAST_BYTES: usize = 12;
 
@@ -43,8 +45,27 @@ pub const LIMIT2: usize = 95;
 
 pub const MOTOR: usize = 103;
 
-// The largest float of a card but a cap.
-pub const BOUND: f32 = 1024.0;
+// What a float may be.
+#[derive(Clone, Copy)]
+pub struct Bounds {
+    pub low: f32,
+    pub high: f32,
+}
+
+pub const BOUNDED: Bounds = Bounds {
+    low: -1024.0,
+    high: 1024.0,
+};
+
+pub const NOT_NEGATIVE: Bounds = Bounds {
+    low: 0.0,
+    high: 1024.0,
+};
+
+pub const CAP: Bounds = Bounds {
+    low: 0.0,
+    high: MAX,
+};
 
 // The largest size of an angle limit.
 pub const WIDEST_ANGLE: f32 = 7.0;

@@ -2,9 +2,10 @@
 ghost use Rattle.std.specs.Prelude.{◌≡◌, ◌≤◌, length};
 ghost use Rattle.card.specs.Format.{numbers_at};
 ghost use Rattle.card.specs.Card.{body, edition_of};
-ghost use Rattle.card.specs.Parts.{Listed, header_bits, body_bits, joint_bits};
+ghost use Rattle.card.specs.Parts.{edition_number, header_bits, body_bits, joint_bits};
 
 use crate::bits::{bits8_at, bits16_at, bits24_at, bits32_at};
+use crate::edition::Edition;
 
 #[derive(Clone, Copy)]
 pub struct HeaderBits {
@@ -28,17 +29,19 @@ pub struct BodyBits {
 
 #[derive(Clone, Copy)]
 pub struct JointBits {
+    // A number: document 01 has the loader decide over it.
     pub kind: u32,
     pub body1: usize,
     pub body2: usize,
     // Whether the joint has its first and its second limit.
     pub first: bool,
     pub second: bool,
-    // The number of its model, 0 for no motor.
+    // The number of its model, 0 for no motor; the converter writes both numbers back.
     pub motor: u32,
     pub zero: u32,
 }
 
+// Each edition's places are written out: read from a row of widths each would be a sum of widths, which is no plainer.
 fn header_bits_1(part: &[u8]) -> HeaderBits
     requires { 4 ≤ length part.now }
     ensures { result ≡ header_bits (numbers_at (edition_of 1).header part.now 0) }
@@ -52,6 +55,7 @@ fn header_bits_1(part: &[u8]) -> HeaderBits
     }
 }
 
+#[tactic(auto, unfolding(crate::specs::Parts::header_bits, crate::specs::Format::numbers_at, crate::specs::Card::edition_of))]
 fn header_bits_2(part: &[u8]) -> HeaderBits
     requires { 8 ≤ length part.now }
     ensures { result ≡ header_bits (numbers_at (edition_of 2).header part.now 0) }
@@ -64,14 +68,14 @@ fn header_bits_2(part: &[u8]) -> HeaderBits
     }
 }
 
-pub fn header_bits(part: &[u8], edition: u32) -> HeaderBits
-    requires { Listed edition × (8 ≤ length part.now) }
-    ensures { result ≡ header_bits (numbers_at (edition_of edition).header part.now 0) }
+pub fn header_bits(part: &[u8], edition: Edition) -> HeaderBits
+    requires { 8 ≤ length part.now }
+    ensures { result ≡ header_bits (numbers_at (edition_of (edition_number edition)).header part.now 0) }
 {
-    if edition == 1 {
-        return header_bits_1(part);
+    match edition {
+        Edition::One => header_bits_1(part),
+        Edition::Two => header_bits_2(part),
     }
-    header_bits_2(part)
 }
 
 pub fn body_bits(part: &[u8]) -> BodyBits
@@ -121,12 +125,12 @@ fn joint_bits_2(part: &[u8]) -> JointBits
     }
 }
 
-pub fn joint_bits(part: &[u8], edition: u32) -> JointBits
-    requires { Listed edition × (3 ≤ length part.now) }
-    ensures { result ≡ joint_bits (numbers_at (edition_of edition).joint part.now 0) }
+pub fn joint_bits(part: &[u8], edition: Edition) -> JointBits
+    requires { 3 ≤ length part.now }
+    ensures { result ≡ joint_bits (numbers_at (edition_of (edition_number edition)).joint part.now 0) }
 {
-    if edition == 1 {
-        return joint_bits_1(part);
+    match edition {
+        Edition::One => joint_bits_1(part),
+        Edition::Two => joint_bits_2(part),
     }
-    joint_bits_2(part)
 }

@@ -1,16 +1,16 @@
 -- What a conversion answers by its checks.
 use Rattle.std.specs.Prelude.{if◌then◌else◌}
-use Prim.Native.Nat.{ℕ, ◌≤◌, ◌<◌}
+use Prim.Native.Nat.{ℕ, ◌≤◌}
 use mathlib.Core.Path.{◌≡◌, refl, sym, ap, ◌∙◌}
 use mathlib.Core.Bool.{Bool, true, false, not}
 use mathlib.Core.List.{List, [], ◌∷◌, ◌++◌}
 use lib.ListN.{length, drop}
 use lib.Dec.{ltb, eqb}
-use borrow.Author.Tests.{eqb-true, not-false, lt-ltb, le-ltb, eq-eqb, ne_eqb}
+use borrow.Author.Tests.{eqb-true, not-false, le-ltb, eq-eqb, ne_eqb}
 use Rattle.card.specs.Format.{bits_at}
 use Rattle.card.specs.Card.{edition_at, card_of}
 use Rattle.card.specs.Checks.{Refusal, refuse, first_of, card_checks, check_of}
-use Rattle.card.proofs.Checking.{First, applies, passes, first, passed, passed_behind, passed_on, passed_first, refused_first}
+use Rattle.card.proofs.Checking.{passed, passed_behind, passed_on, passed_first, refused_first}
 use Rattle.convert.specs.Convert.{converted, own_checks, conversion_check, convert_checks, Conversion, conversion, unless_refused, convert_of}
 
 -- ---- the card's own
@@ -19,17 +19,9 @@ two_passed : {a b : Bool} (checks : List Refusal) → a ≡ false → b ≡ fals
 two_passed checks e f = rw (e, f)
 
 module _ (from : ℕ) (card : List ℕ) where
-  pub short_refused : length card < 12 → 1 ≡ first_of (own_checks from card)
-  short_refused h = rw (lt-ltb (length card) 12 h)
-
   module _ (long : 12 ≤ length card) where
     passes_1 : ltb (length card) 12 ≡ false
     passes_1 = le-ltb (length card) 12 long
-
-    pub edition_refused : {n : ℕ} → n ≡ bits_at card 0 8 → (n ≡ from → ⊥) → 2 ≡ first_of (own_checks from card)
-    edition_refused e x =
-        let other : not (eqb (bits_at card 0 8) from) ≡ true = rw (ne_eqb (bits_at card 0 8) from (λ i. x (e ∙ i))) in
-        let all : First (own_checks from card) 2 = passes passes_1 (applies other) in first all
 
     pub own_answer : {k : ℕ} → bits_at card 0 8 ≡ from → k ≡ check_of card → k ≡ first_of (own_checks from card)
     unfolding check_of

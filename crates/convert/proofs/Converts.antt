@@ -8,6 +8,7 @@ use lib.ListN.{length, get_or, drop}
 use lib.Seq.{take_at}
 use lib.Dec.{ltb}
 use borrow.Author.Tests.{le-ltb}
+use Rattle.card.specs.declared.edition.Edition.TheVariants.{One, Two}
 use Rattle.card.specs.Format.{bits_at, numbers_at}
 use Rattle.card.specs.Card.{at, edition_of, card_of}
 use Rattle.card.specs.Checks.{first_of, check_of}
@@ -81,4 +82,4 @@ converts {from} {to} a b card out small e =
     }
 
 pub both_ways : Converts
-both_ways = record { over = converts (row 1 (omega arith)) (row 2 (omega arith)); back = converts (row 2 (omega arith)) (row 1 (omega arith)) }
+both_ways = record { over = converts (row One) (row Two); back = converts (row Two) (row One) }

@@ -2,11 +2,15 @@
 use Prim.Native.Nat.{ℕ, ◌*◌, ◌^◌, ◌≤◌, ◌<◌}
 use native.Mathlib.Omega.{arith}
 use mathlib.Core.Path.{◌≡◌, refl}
+use mathlib.Core.Bool.{false, ◌||◌}
 use mathlib.Core.List.{[]}
+use lib.ListN.{length}
+use lib.Dec.{eqb, ltb}
 use Rattle.card.specs.Format.{width_of}
-use Rattle.card.specs.Card.{header, joint, Edition, edition, edition_of}
-use Rattle.card.specs.Parts.{Listed, sizes_of}
-use Rattle.card.proofs.Editions.{by_edition}
+use Rattle.card.specs.Card.{header, joint, Edition, edition, editions, edition_of}
+use Rattle.card.specs.declared.edition.Edition as named
+use Rattle.card.specs.declared.edition.Edition.TheVariants.{One, Two}
+use Rattle.card.specs.Parts.{edition_number, sizes_of}
 
 pub record Row (n : ℕ) : Type 0 where
   -- the widths of the counts, the rate and the zero bits of a header, of a joint's body numbers and of its zero bits
@@ -20,7 +24,7 @@ pub record Row (n : ℕ) : Type 0 where
   -- of the header
   pub bytes : ℕ
   pub listed : edition_of n ≡ edition (header counts rate zeros) (joint numbers spare []) most fastest
-  pub known : Listed n
+  pub known : (eqb n 0 || ltb (length editions) n) ≡ false
   pub byte : n < 256
   pub whole_header : width_of (header counts rate zeros) ≡ 8 * bytes
   pub whole_joint : width_of (joint numbers spare []) ≡ 8 * 123
@@ -32,14 +36,10 @@ pub record Row (n : ℕ) : Type 0 where
 abbrev pub edition_in : {n : ℕ} → Row n → Edition
 edition_in r = edition (header r.counts r.rate r.zeros) (joint r.numbers r.spare []) r.most r.fastest
 
-pub size_is : {n : ℕ} (r : Row n) → (sizes_of n).header_bytes ≡ r.bytes
-unfolding sizes_of
-size_is r = rw (r.listed, r.whole_header) (omega arith)
-
-row_of : {n : ℕ} (counts rate zeros numbers spare most fastest bytes : ℕ) → Listed n → edition_of n ≡ edition (header counts rate zeros) (joint numbers spare []) most fastest
+row_of : {n : ℕ} (counts rate zeros numbers spare most fastest bytes : ℕ) → edition_of n ≡ edition (header counts rate zeros) (joint numbers spare []) most fastest → (eqb n 0 || ltb (length editions) n) ≡ false
     → (width_of (header counts rate zeros) ≡ 8 * bytes) × (width_of (joint numbers spare []) ≡ 8 * 123)
     → (n < 256) × (12 ≤ bytes) × (most < 2 ^ counts) × (fastest < 2 ^ rate) × (most ≤ 2 ^ numbers) → Row n
-row_of counts rate zeros numbers spare most fastest bytes known listed whole room =
+row_of counts rate zeros numbers spare most fastest bytes listed known whole room =
     record {
       counts = counts;
       rate = rate;
@@ -60,8 +60,18 @@ row_of counts rate zeros numbers spare most fastest bytes known listed whole roo
       numbered = room.4;
     }
 
-pub row : (n : ℕ) → Listed n → Row n
+pub row : (e : named.Edition) → Row (edition_number e)
 unfolding edition_of
-row =
-    by_edition Row (row_of 6 10 2 5 7 32 1000 12 (omega arith) refl (refl, refl) (omega arith))
-    (row_of 8 16 24 8 1 200 4000 16 (omega arith) refl (refl, refl) (omega arith))
+row One = row_of 6 10 2 5 7 32 1000 12 refl refl (refl, refl) (omega arith)
+row Two = row_of 8 16 24 8 1 200 4000 16 refl refl (refl, refl) (omega arith)
+
+pub size_is : (e : named.Edition) → (sizes_of e).header_bytes ≡ (row e).bytes
+unfolding sizes_of
+size_is e = rw ((row e).listed, (row e).whole_header) (omega arith)
+
+module _ {n : ℕ} (r : Row n) where
+  pub width_is : width_of (edition_of n).header ≡ 8 * r.bytes
+  width_is = rw r.listed r.whole_header
+
+  pub joint_width_is : width_of (edition_of n).joint ≡ 8 * 123
+  joint_width_is = rw r.listed r.whole_joint

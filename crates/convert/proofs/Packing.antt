@@ -1,6 +1,6 @@
 -- Bytes of a number, and a record packed and read again.
 use Prim.Native.Nat.{ℕ, zero, suc, ◌+◌, ◌*◌, ◌/◌, ◌%◌, ◌^◌, ◌≤◌, ◌<◌}
-use native.Mathlib.Nat.{mul-suc, mul_assoc, pow-suc, pow-succ', mul-add-div_right, div-div-eq-div-mul, one-le-pow, suc-add, zero-add, mul_comm, mul-zero, mod-eq_of_lt, mod-one}
+use native.Mathlib.Nat.{mul-suc, mul_assoc, pow-suc, pow-succ', mul-add-div_right, div-div-eq-div-mul, one-le-pow, suc-add, zero-add, mul_comm, mul-zero, mod-eq_of_lt, mod-one, div-one}
 use native.Mathlib.Omega.{arith}
 use mathlib.Core.Path.{◌≡◌, refl, sym, ap, ap₂, ◌∙◌}
 use mathlib.Core.List.{List, [], ◌∷◌, ◌++◌, map, append_assoc}
@@ -8,6 +8,7 @@ use lib.ListN.{length, get_or, take, drop}
 use lib.Arith.{digits_lt, digits_div, digits_mod, mod-mul}
 use lib.Pow.{pow-add}
 use lib.Seq.{drop-cons, take-add, take_all, take_at, drop_at, drop-drop}
+use Rattle.std.specs.Int.{bytes_high_first}
 use Rattle.numbers.specs.Lists.{concat}
 use Rattle.card.specs.Format.{bits_at, Cell, width_of, numbers_at, records_at}
 use Rattle.card.proofs.Packed.{below, split, byte}
@@ -27,6 +28,13 @@ pub bytes_length : (n x : ℕ) → length (bytes_of n x) ≡ n
 unfolding bytes_of
 bytes_length zero x = refl
 bytes_length (suc n) x = ap suc (bytes_length n x)
+
+-- as std writes them
+pub high_first : (n x : ℕ) → bytes_high_first n x ≡ bytes_of n x
+unfolding bytes_of
+high_first zero x = refl
+high_first (suc zero) x = rw div-one refl
+high_first (suc (suc n)) x = ap (λ l. x / 256 ^ suc n % 256 ∷ l) (high_first (suc n) x)
 
 -- bytes above the last n are not among them
 bytes_low : (n x y : ℕ) → bytes_of n (x * 256 ^ n + y) ≡ bytes_of n y

@@ -5,32 +5,24 @@ use native.Mathlib.Omega.{arith}
 use mathlib.Core.Path.{◌≡◌, refl, sym, ap, ◌∙◌}
 use mathlib.Core.List.{List, [], ◌∷◌, ◌++◌, map, map-append, append-nil, append_assoc}
 use lib.ListN.{length, get_or, set, take, drop, length-append, length-take, length-drop, drop_of_length-le}
-use lib.Seq.{sets, sets-eq, take_all, take_at, drop_at, drop-drop}
+use lib.Seq.{sets, sets-eq, take_at, drop_at, drop-drop}
 use Rattle.numbers.specs.Lists.{concat}
 use Rattle.numbers.proofs.Rows.{concat_last, pieces_length}
 use Rattle.card.specs.Format.{Cell, width_of, numbers_at, records_at}
 use Rattle.card.specs.Card.{body, Edition, edition_of}
-use Rattle.card.specs.Parts.{Listed, sizes_of, card_with}
+use Rattle.card.specs.Parts.{edition_number, sizes_of, card_with}
+use Rattle.card.specs.declared.edition.Edition as named
 use Rattle.card.specs.declared.edition.EditionSizes.{EditionSizes}
 use Rattle.card.proofs.Cut.{numbers_part, records_length, last_record}
-use Rattle.card.proofs.Editions.{joint_width, header_width}
+use Rattle.card.proofs.Editions.{header_width}
 use Rattle.convert.specs.Convert.{record_bytes, card_bytes, with_edition}
 use Rattle.convert.specs.Parts.{rows_bytes}
 use Rattle.convert.proofs.Packing.{record_length, records_bytes}
+use Rattle.convert.proofs.Editions.{Row, joint_width_is}
 
 -- a list from its element k on, all of it dropped
 pub none_behind : {A : Type 0} (l : List A) (k : ℕ) → drop (length l - k) (drop k l) ≡ []
 none_behind l k = drop_of_length-le (drop k l) {i = length l - k} (rw (length-drop k l) (omega arith))
-
-module _ {A : Type 0} (out : List A) (w : ℕ) where
-  -- copied to a part that reaches to the end
-  pub copied : (source : List A) {part : List A} → w + length source ≤ length out
-      → part ≡ source ++ drop (length source) (take (length out - w) (drop w out))
-      → take w out ++ (part ++ drop (length out - w) (drop w out)) ≡ take w out ++ (source ++ drop (w + length source) out)
-  copied source {part} room e =
-      let size = length-drop w out in
-      let all : take (length out - w) (drop w out) ≡ drop w out = take_all (length out - w) (drop w out) (omega arith) in
-      rw (e, all, none_behind out w, append-nil (source ++ drop (length source) (drop w out)), drop-drop (length source) w out)
 
 -- the first elements written anew
 pub overwritten : {A : Type 0} (front rest new : List A) → length new ≡ length front → sets (front ++ rest) 0 new ≡ new ++ rest
@@ -43,7 +35,7 @@ overwritten front rest new e =
 abbrev pub joints_made : ℕ → ℕ → List ℕ → ℕ → ℕ → List ℕ
 joints_made from to card at i = concat (map (record_bytes (edition_of to).joint) (records_at (edition_of from).joint card (8 * at) i))
 
-module _ {from to : ℕ} (f : Listed from) (t : Listed to) (card : List ℕ) (at : ℕ) where
+module _ {from to : ℕ} (a : Row from) (b : Row to) (card : List ℕ) (at : ℕ) where
   abbrev cs : List Cell
   cs = (edition_of from).joint
 
@@ -52,7 +44,7 @@ module _ {from to : ℕ} (f : Listed from) (t : Listed to) (card : List ℕ) (at
 
   made_length : (i : ℕ) → length (made i) ≡ 123 * i
   made_length i =
-      pieces_length (record_bytes (edition_of to).joint) 123 (record_length (edition_of to).joint 123 (joint_width to t)) (records_at cs card (8 * at) i) ∙ rw (records_length cs card (8 * at) i)
+      pieces_length (record_bytes (edition_of to).joint) 123 (record_length (edition_of to).joint 123 (joint_width_is b)) (records_at cs card (8 * at) i) ∙ rw (records_length cs card (8 * at) i)
 
   pub none_made : (l : List ℕ) → l ≡ made 0 ++ drop (123 * 0) l
   unfolding records_at concat
@@ -64,33 +56,31 @@ module _ {from to : ℕ} (f : Listed from) (t : Listed to) (card : List ℕ) (at
   next_made i n m l {out} {new} en em eo ew =
       let k = 123 * i in
       let g = record_bytes (edition_of to).joint in
-      let place : 8 * at + i * width_of cs ≡ 8 * (at + k) = rw (joint_width from f) (omega arith) in
+      let place : 8 * at + i * width_of cs ≡ 8 * (at + k) = rw (joint_width_is a) (omega arith) in
       let r = numbers_at cs card (8 * (at + k)) in
-      let here : new ≡ g r = ew ∙ ap g (numbers_part card (at + k) n cs (omega (arith, joint_width from f))) in
+      let here : new ≡ g r = ew ∙ ap g (numbers_part card (at + k) n cs (omega (arith, joint_width_is a))) in
       let next : made (i + 1) ≡ made i ++ g r =
       rw (last_record cs card (8 * at) i, place, map-append g (records_at cs card (8 * at) i) (r ∷ [])) (concat_last (map g (records_at cs card (8 * at) i)) (g r)) in
       let end : k + m ≡ 123 * (i + 1) = omega arith in
       let behind : drop m (drop k out) ≡ drop (123 * (i + 1)) l = rw (eo, drop_at (made i) (drop k l) k (made_length i), drop-drop m k l, end) in
       rw (behind, here, next, eo, take_at (made i) (drop k l) k (made_length i)) (sym (append_assoc (made i) (g r) (drop (123 * (i + 1)) l)))
 
-  pub all_made : (i n : ℕ) (l : List ℕ) {out : List ℕ} → i ≡ n → length l ≡ 123 * n → out ≡ made i ++ drop (123 * i) l → out ≡ made n
-  all_made i n l {out} ei el e = e ∙ rw (ei, drop_of_length-le l {i = 123 * n} (omega arith)) (append-nil (made n))
-
 -- ---- bodies, which are copied, and joints
 
-pub rows_written : (from to : Edition) (card : List ℕ) → ((i : ℕ) → get_or card i 0 < 256) → (at bodies joints : ℕ) (out : List ℕ) {copied new : List ℕ}
-    → at + 94 * bodies ≤ length card → 94 * bodies ≤ length out → let part = take (at + 94 * bodies - at) (drop at card) in copied ≡ part ++ drop (length part) out
+pub rows_written : (from to : Edition) (card : List ℕ) → ((i : ℕ) → get_or card i 0 < 256) → (at bodies joints : ℕ) (out : List ℕ) {bytes new : List ℕ}
+    → at + 94 * bodies ≤ length card → 94 * bodies ≤ length out → let copied = bytes ++ drop (94 * bodies) out in bytes ≡ take (at + 94 * bodies - at) (drop at card)
     → new ≡ concat (map (record_bytes to.joint) (records_at from.joint card (8 * (at + 94 * bodies)) joints))
     → take (94 * bodies) copied ++ (new ++ drop (length copied - 94 * bodies) (drop (94 * bodies) copied)) ≡ rows_bytes from to card (8 * at) bodies joints
 unfolding rows_bytes
-rows_written from to card small at bodies joints out {copied} {new} long room ec en =
+rows_written from to card small at bodies joints out {bytes} {new} long room ec en =
     let n = 94 * bodies in
+    let copied = bytes ++ drop n out in
     let some : at + n - at ≡ n = omega arith in
     let rows = records_bytes card small body 94 at bodies refl long in
     let part = take n (drop at card) in
     let size : length part ≡ n = rw (length-take, length-drop) (omega arith) in
     let place : 8 * at + 752 * bodies ≡ 8 * (at + n) = omega arith in
-    let front : take n copied ≡ part = rw (ec, some, size) (take_at part (drop n out) n size) in
+    let front : take n copied ≡ part = rw (ec, some) (take_at part (drop n out) n size) in
     rw (front, none_behind copied n, append-nil new, en, rows, place)
 
 -- ---- a card
@@ -98,7 +88,13 @@ rows_written from to card small at bodies joints out {copied} {new} long room ec
 pub header_size : {s t : EditionSizes} → s ≡ t → s.header_bytes ≡ t.header_bytes
 header_size e = ap (λ s. s.header_bytes) e
 
-module _ {from to : ℕ} (f : Listed from) (t : Listed to) (card : List ℕ) (bodies joints : ℕ) {r w : EditionSizes} (er : r ≡ sizes_of from) (ew : w ≡ sizes_of to) where
+module _ (e t : named.Edition) (card : List ℕ) (bodies joints : ℕ) {r w : EditionSizes} (er : r ≡ sizes_of e) (ew : w ≡ sizes_of t) where
+  abbrev from : ℕ
+  from = edition_number e
+
+  abbrev to : ℕ
+  to = edition_number t
+
   pub card_written : (out : List ℕ) {h rows : List ℕ} → h ≡ record_bytes (edition_of to).header (set (numbers_at (edition_of from).header (take r.header_bytes card) 0) 0 to)
       → rows ≡ rows_bytes (edition_of from) (edition_of to) card (8 * r.header_bytes) bodies joints
       → let o = h ++ drop w.header_bytes out in
@@ -108,8 +104,8 @@ module _ {from to : ℕ} (f : Listed from) (t : Listed to) (card : List ℕ) (bo
       let n = w.header_bytes in
       let o = h ++ drop n out in
       let c = card_with (edition_of from) card bodies joints in
-      let read : 8 * r.header_bytes ≡ width_of (edition_of from).header = rw er (header_width from f) in
-      let written : width_of (edition_of to).header ≡ 8 * n = rw ew (sym (header_width to t)) in
+      let read : 8 * r.header_bytes ≡ width_of (edition_of from).header = rw er (header_width e) in
+      let written : width_of (edition_of to).header ≡ 8 * n = rw ew (sym (header_width t)) in
       let same : numbers_at (edition_of from).header (take r.header_bytes card) 0 ≡ numbers_at (edition_of from).header card 0 =
       numbers_part card 0 r.header_bytes (edition_of from).header (omega (arith, read)) in
       let size : length h ≡ n = rw eh (record_length (edition_of to).header n written (set (numbers_at (edition_of from).header (take r.header_bytes card) 0) 0 to)) in

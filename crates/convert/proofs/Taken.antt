@@ -7,7 +7,7 @@ use mathlib.Core.List.{List, [], ◌∷◌}
 use lib.ListN.{length, get_or, take, drop, length-drop, take-append-drop}
 use lib.Seq.{take-add, take_all}
 use lib.Dec.{ltb, eqb}
-use borrow.Author.Tests.{le-ltb, eq-eqb, ne_eqb}
+use borrow.Author.Tests.{le-ltb, eq-eqb}
 use Rattle.card.specs.Format.{Range}
 use Rattle.card.specs.Format.{bits_at, Cell, width_of, numbers_at, any_cell, unused_set, out_of, out_of_range}
 use Rattle.card.specs.Card.{at, body, editions, edition_at, Card, card_of}
@@ -86,7 +86,7 @@ module _ {from to : ℕ} (a : Row from) (b : Row to) (card : List ℕ) (is : bit
       let long : 8 * length new ≡ size = rw (taken_length a card is z b, b.whole_header, b.whole_joint) (omega arith) in
       let r1 : ltb (length new) 12 ≡ false = le-ltb (length new) 12 (omega (arith, taken_length a card is z b, b.shortest)) in
       let r2 : (eqb (bits_at new 0 8) 0 || ltb (length editions) (bits_at new 0 8)) ≡ false =
-      rw (read, ne_eqb to 0 (λ e. omega (arith, e, b.known.0)), le-ltb (length editions) to b.known.1) in
+      rw read b.known in
       let r3 : (eqb bodies 0 || ltb b.most bodies || ltb b.most joints) ≡ false =
       rw (some_bodies, le-ltb b.most bodies inside.0, le-ltb b.most joints inside.1) in
       let r4 : (ltb rate 16 || ltb b.fastest rate) ≡ false = rw (le-ltb rate 16 (has a card is z).least_rate, le-ltb b.fastest rate inside.2) in

@@ -1,9 +1,8 @@
 -- What the parts of the converter hand to each other, for their own contracts: the definitions that are read need none of it.
-use Rattle.std.specs.Prelude.{ℕ, ◌+◌, ◌*◌, ◌-◌, ◌^◌, ◌<◌, Bool, cond, ◌||◌, List, [], ◌∷◌, ◌++◌, map, take, ltb}
+use Rattle.std.specs.Prelude.{ℕ, ◌+◌, ◌*◌, ◌-◌, ◌/◌, ◌^◌, ◌<◌, Bool, cond, ◌||◌, List, [], ◌∷◌, ◌++◌, map, take, ltb}
 use Rattle.numbers.specs.Lists.{concat}
 use Rattle.card.specs.Format.{width_of, records_at}
 use Rattle.card.specs.Card.{body, Edition, edition_of}
-use Rattle.card.specs.Parts.{sizes_of}
 use Rattle.card.specs.declared.records.HeaderBits.{HeaderBits}
 use Rattle.card.specs.declared.records.JointBits.{JointBits}
 use Rattle.convert.specs.Convert.{packed, bytes_of, record_bytes}
@@ -29,7 +28,7 @@ bit_of b = cond b 1 0
 
 -- as bytes of edition n
 unfoldable pub header_start : ℕ → HeaderBits → List ℕ
-header_start n h = bytes_of ((sizes_of n).header_bytes - 8) (packed (take 5 (edition_of n).header) (n ∷ h.bodies ∷ h.joints ∷ h.rate ∷ h.zero ∷ []))
+header_start n h = bytes_of (width_of (edition_of n).header / 8 - 8) (packed (take 5 (edition_of n).header) (n ∷ h.bodies ∷ h.joints ∷ h.rate ∷ h.zero ∷ []))
 
 -- as one number of edition n
 unfoldable pub joint_start : ℕ → JointBits → ℕ
@@ -46,7 +45,7 @@ rows_bytes from to card p bodies joints =
 -- ---- a card with such a header in edition n
 
 unfoldable pub length_in : ℕ → HeaderBits → ℕ
-length_in n h = (sizes_of n).header_bytes + 94 * h.bodies + 123 * h.joints
+length_in n h = width_of (edition_of n).header / 8 + 94 * h.bodies + 123 * h.joints
 
 unfoldable pub too_large_in : ℕ → HeaderBits → Bool
 too_large_in n h = let e = edition_of n in ltb e.most h.bodies || ltb e.most h.joints || ltb e.fastest h.rate

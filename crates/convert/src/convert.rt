@@ -1,97 +1,92 @@
 // The converter's two calls, and what they refuse. Nothing is written before the last refusal is passed.
-ghost use Rattle.std.specs.Prelude.{◌≡◌, [], ◌∷◌};
+ghost use Rattle.std.specs.Prelude.{◌≡◌, [], ◌∷◌, IfOk};
+ghost use Rattle.std.specs.Result.{result_unwrap_or};
 ghost use Rattle.card.specs.Format.{bits_at};
-ghost use Rattle.card.specs.Checks.{first_of, check_of};
+ghost use Rattle.card.specs.Checks.{first_of};
 ghost use Rattle.card.specs.Answer.{number_of};
-ghost use Rattle.card.specs.Parts.{Listed};
+ghost use Rattle.card.specs.Parts.{edition_number};
 ghost use Rattle.convert.specs.Parts.{SmallHeader, length_in, too_large_in};
 ghost use Rattle.convert.specs.Convert.{converted, own_checks, conversion_check, conversion, unless_refused, convert_of};
 
-use crate::records::write_card;
-use card::answer::Answer;
+use crate::records::Way;
+use card::accepted_card::Accepted;
 use card::bits::bits8_at;
 use card::checks::check;
-use card::edition::sizes_of;
+use card::edition::Edition;
 use card::layout::{BODY_BYTES, JOINT_BYTES, LEAST_BYTES};
 use card::records::{HeaderBits, header_bits};
-
-#[derive(Clone, Copy)]
-pub struct Converted {
-    pub answer: Answer,
-    // Of the result, in bytes; 0 where there is none.
-    pub length: usize,
-}
+use card::refusal::Refusal;
 
 // How many bytes a card with such a header has in an edition.
-fn length_in(h: HeaderBits, edition: u32) -> usize
-    requires { SmallHeader h × Listed edition }
-    ensures { result ≡ length_in edition h }
+fn length_in(h: HeaderBits, edition: Edition) -> usize
+    requires { SmallHeader h }
+    ensures { result ≡ length_in (edition_number edition) h }
 {
-    let s = sizes_of(edition);
+    let s = edition.sizes();
     s.header_bytes + BODY_BYTES * h.bodies + JOINT_BYTES * h.joints
 }
 
 // More bodies or joints than an edition has, or a faster rate.
-fn too_large(h: HeaderBits, edition: u32) -> bool
-    requires { Listed edition }
-    ensures { result ≡ too_large_in edition h }
+fn too_large(h: HeaderBits, edition: Edition) -> bool
+    ensures { result ≡ too_large_in (edition_number edition) h }
 {
-    let s = sizes_of(edition);
+    let s = edition.sizes();
     (s.most < h.bodies) | (s.most < h.joints) | (s.fastest < h.rate)
 }
 
-// Of a card that is accepted and has the edition that the way starts from.
-fn convert_accepted(card: &[u8], from: u32, to: u32, out: &mut [u8]) -> Converted
-    requires { Listed from × Listed to × (bits_at card.now 0 8 ≡ from) × (check_of card.now ≡ 0) }
-    ensures { conversion (number_of result.answer) result.length out.new ≡ unless_refused (conversion_check to card.now out.old ∷ []) (converted to card.now) out.old }
-{
-    let h = header_bits(card, from);
-    let length = length_in(h, to);
-    if too_large(h, to) | (out.len() < length) {
-        return Converted {
-            answer: Answer::Conversion,
-            length: 0,
-        };
-    }
-    write_card(card, from, to, h.bodies, h.joints, &mut out[..length]);
-    Converted {
-        answer: Answer::Done,
-        length,
-    }
-}
-
 // The card's own refusals, with any edition but one.
-fn check_edition(card: &[u8], edition: u32) -> Answer
-    ensures { number_of result ≡ first_of (own_checks edition card.now) }
+fn check_edition(card: &[u8], edition: Edition) -> Result<Accepted<'_>, Refusal>
+    ensures number { number_of result ≡ first_of (own_checks (edition_number edition) card.now) }
+    ensures bytes { IfOk result (λ accepted. accepted.bytes.now ≡ card.now) }
 {
     if card.len() < LEAST_BYTES {
-        return Answer::ShortCard;
+        return Err(Refusal::ShortCard);
     }
-    if bits8_at(card, 0) != edition {
-        return Answer::WrongEdition;
+    if bits8_at(card, 0) != edition.number() {
+        return Err(Refusal::WrongEdition);
     }
     check(card)
 }
 
-fn convert(card: &[u8], from: u32, to: u32, out: &mut [u8]) -> Converted
-    requires { Listed from × Listed to }
-    ensures { conversion (number_of result.answer) result.length out.new ≡ convert_of from to card.now out.old }
-{
-    let answer = check_edition(card, from);
-    if answer.number() == 0 {
-        return convert_accepted(card, from, to, out);
+impl Way {
+    // Of a card of the edition that the way starts from.
+    fn convert_accepted(self, card: Accepted, out: &mut [u8]) -> Result<usize, Refusal>
+        requires { bits_at card.bytes.now 0 8 ≡ edition_number self.from }
+        ensures { conversion (number_of result) (result_unwrap_or result 0) out.new ≡ unless_refused (conversion_check (edition_number self.to) card.entry.bytes.now out.old ∷ []) (converted (edition_number self.to) card.entry.bytes.now) out.old }
+    {
+        let h = header_bits(card.bytes, self.from);
+        let length = length_in(h, self.to);
+        if too_large(h, self.to) | (out.len() < length) {
+            return Err(Refusal::Conversion);
+        }
+        self.write_card(card.bytes, h.bodies, h.joints, &mut out[..length]);
+        Ok(length)
     }
-    Converted { answer, length: 0 }
+
+    fn convert(self, card: &[u8], out: &mut [u8]) -> Result<usize, Refusal>
+        ensures { conversion (number_of result) (result_unwrap_or result 0) out.new ≡ convert_of (edition_number self.from) (edition_number self.to) card.now out.old }
+    {
+        self.convert_accepted(check_edition(card, self.from)?, out)
+    }
 }
 
-pub fn to_edition_2(card: &[u8], out: &mut [u8]) -> Converted
-    ensures { conversion (number_of result.answer) result.length out.new ≡ convert_of 1 2 card.now out.old }
+// How many bytes the result has.
+pub fn to_edition_2(card: &[u8], out: &mut [u8]) -> Result<usize, Refusal>
+    ensures { conversion (number_of result) (result_unwrap_or result 0) out.new ≡ convert_of 1 2 card.now out.old }
 {
-    convert(card, 1, 2, out)
+    let way = Way {
+        from: Edition::One,
+        to: Edition::Two,
+    };
+    way.convert(card, out)
 }
 
-pub fn to_edition_1(card: &[u8], out: &mut [u8]) -> Converted
-    ensures { conversion (number_of result.answer) result.length out.new ≡ convert_of 2 1 card.now out.old }
+pub fn to_edition_1(card: &[u8], out: &mut [u8]) -> Result<usize, Refusal>
+    ensures { conversion (number_of result) (result_unwrap_or result 0) out.new ≡ convert_of 2 1 card.now out.old }
 {
-    convert(card, 2, 1, out)
+    let way = Way {
+        from: Edition::Two,
+        to: Edition::One,
+    };
+    way.convert(card, out)
 }

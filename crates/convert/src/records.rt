@@ -1,172 +1,127 @@
 // A card's records read by one edition and written by another. What the editions share keeps its bytes.
-ghost use Rattle.std.specs.Prelude.{◌≡◌, map, ◌+◌, ◌*◌, ◌≤◌, ◌++◌, length, drop, set};
+ghost use Rattle.std.specs.Prelude.{◌≡◌, map, ◌+◌, ◌*◌, ◌≤◌, length, set};
 ghost use Rattle.std.proofs.lemmas.List.Edits.{sets};
 ghost use Rattle.numbers.specs.Lists.{concat};
 ghost use Rattle.card.specs.Format.{numbers_at, records_at};
 ghost use Rattle.card.specs.Card.{edition_of};
-ghost use Rattle.card.specs.Parts.{Listed, sizes_of, card_with};
+ghost use Rattle.card.specs.Parts.{edition_number, sizes_of, card_with};
 ghost use Rattle.convert.specs.Convert.{record_bytes, card_bytes, with_edition};
-ghost use Rattle.convert.specs.Parts.{bit_of, SmallHeader, SmallJoint, header_start, joint_start, rows_bytes};
+ghost use Rattle.convert.specs.Parts.{SmallHeader, SmallJoint, header_start, joint_start, rows_bytes};
 
-use card::edition::sizes_of;
+use card::edition::Edition;
 use card::layout::{BODY_BYTES, GRAVITY, JOINT_BYTES};
 use card::records::{HeaderBits, JointBits, header_bits, joint_bits};
 
-// Into the first bytes of `to`; the others stay.
-fn copy(from: &[u8], to: &mut [u8])
-    requires { length from.now ≤ length to.old }
-    ensures { to.new ≡ from.now ++ drop (length from.now) to.old }
-{
-    to[..from.len()].copy_from_slice(from);
-}
-
-fn write_header_bits_1(h: HeaderBits, out: &mut [u8])
-    requires { SmallHeader h × (4 ≤ length out.old) }
-    ensures { out.new ≡ sets out.old 0 (header_start 1 h) }
-{
-    let b = 0x0100_0000
-        + h.bodies as u32 * 0x0004_0000
-        + h.joints as u32 * 0x1000
-        + h.rate * 4
-        + h.zero;
-    out[0] = (b / 0x0100_0000 % 0x100) as u8;
-    out[1] = (b / 0x0001_0000 % 0x100) as u8;
-    out[2] = (b / 0x100 % 0x100) as u8;
-    out[3] = (b / 1 % 0x100) as u8;
-}
-
-fn write_header_bits_2(h: HeaderBits, out: &mut [u8])
+// The bits before a header's floats. By edition and not by a table of places, which would be no shorter.
+fn write_header_bits(h: HeaderBits, edition: Edition, out: &mut [u8])
     requires { SmallHeader h × (8 ≤ length out.old) }
-    ensures { out.new ≡ sets out.old 0 (header_start 2 h) }
+    ensures { out.new ≡ sets out.old 0 (header_start (edition_number edition) h) }
 {
-    out[0] = 2;
-    out[1] = h.bodies as u8;
-    out[2] = h.joints as u8;
-    out[3] = (h.rate / 0x100) as u8;
-    out[4] = (h.rate % 0x100) as u8;
-    out[5] = (h.zero / 0x0001_0000) as u8;
-    out[6] = (h.zero / 0x100 % 0x100) as u8;
-    out[7] = (h.zero % 0x100) as u8;
-}
-
-// The bits before a header's floats.
-fn write_header_bits(h: HeaderBits, edition: u32, out: &mut [u8])
-    requires { SmallHeader h × Listed edition × (8 ≤ length out.old) }
-    ensures { out.new ≡ sets out.old 0 (header_start edition h) }
-{
-    if edition == 1 {
-        write_header_bits_1(h, out);
-        return;
+    match edition {
+        Edition::One => {
+            let b = 0x0100_0000
+                + h.bodies as u32 * 0x0004_0000
+                + h.joints as u32 * 0x1000
+                + h.rate * 4
+                + h.zero;
+            out[..4].copy_from_slice(&b.to_be_bytes());
+        }
+        Edition::Two => {
+            let b = 0x0200_0000_0000_0000
+                + h.bodies as u64 * 0x0001_0000_0000_0000
+                + h.joints as u64 * 0x0100_0000_0000
+                + h.rate as u64 * 0x0100_0000
+                + h.zero as u64;
+            out[..8].copy_from_slice(&b.to_be_bytes());
+        }
     }
-    write_header_bits_2(h, out);
 }
 
-// The floats at its end keep their bytes.
-fn write_header(part: &[u8], from: u32, to: u32, out: &mut [u8])
-    requires { Listed from × Listed to × (length part.now ≡ (sizes_of from).header_bytes) × (length out.old ≡ (sizes_of to).header_bytes) }
-    ensures { out.new ≡ record_bytes (edition_of to).header (set (numbers_at (edition_of from).header part.now 0) 0 to) }
-{
-    let h = header_bits(part, from);
-    let read = part.len() - GRAVITY;
-    let written = out.len() - GRAVITY;
-    copy(&part[read..], &mut out[written..]);
-    write_header_bits(h, to, out);
-}
-
-fn bit(b: bool) -> u32
-    ensures { (result ≡ bit_of b) × (result ≤ 1) }
-{
-    b as u32
-}
-
-// The bits before a joint's floats, in each edition.
-fn joint_bits_in_1(j: JointBits) -> u32
+// The bits before a joint's floats, by edition too.
+fn joint_bits_in(j: JointBits, edition: Edition) -> u32
     requires { SmallJoint j }
-    ensures { result ≡ joint_start 1 j }
+    ensures { result ≡ joint_start (edition_number edition) j }
 {
-    j.kind * 0x0020_0000
-        + j.body1 as u32 * 0x0001_0000
-        + j.body2 as u32 * 0x0800
-        + bit(j.first) * 0x0400
-        + bit(j.second) * 0x0200
-        + j.motor * 0x80
-        + j.zero
-}
-
-fn joint_bits_in_2(j: JointBits) -> u32
-    requires { SmallJoint j }
-    ensures { result ≡ joint_start 2 j }
-{
-    j.kind * 0x0020_0000
-        + j.body1 as u32 * 0x2000
-        + j.body2 as u32 * 0x20
-        + bit(j.first) * 0x10
-        + bit(j.second) * 8
-        + j.motor * 2
-        + j.zero
-}
-
-fn joint_bits_in(j: JointBits, edition: u32) -> u32
-    requires { SmallJoint j × Listed edition }
-    ensures { result ≡ joint_start edition j }
-{
-    if edition == 1 {
-        return joint_bits_in_1(j);
-    }
-    joint_bits_in_2(j)
-}
-
-fn write_joint(part: &[u8], from: u32, to: u32, out: &mut [u8])
-    requires { Listed from × Listed to × (length part.now ≡ 123) × (length out.old ≡ 123) }
-    ensures { out.new ≡ record_bytes (edition_of to).joint (numbers_at (edition_of from).joint part.now 0) }
-{
-    let b = joint_bits_in(joint_bits(part, from), to);
-    copy(part, out);
-    out[0] = (b / 0x0001_0000 % 0x100) as u8;
-    out[1] = (b / 0x100 % 0x100) as u8;
-    out[2] = (b / 1 % 0x100) as u8;
-}
-
-// Of so many joints, from a place of the card on.
-fn write_joints(card: &[u8], from: u32, to: u32, at: usize, joints: usize, out: &mut [u8])
-    requires { Listed from × Listed to × (at + 123 * joints ≤ length card.now) × (length out.old ≡ 123 * joints) }
-    ensures { out.new ≡ concat (map (record_bytes (edition_of to).joint) (records_at (edition_of from).joint card.now (8 * at) joints)) }
-{
-    let mut i = 0;
-    while i < joints {
-        let start = JOINT_BYTES * i;
-        let end = start + JOINT_BYTES;
-        write_joint(&card[at + start..at + end], from, to, &mut out[start..end]);
-        i += 1;
+    let first = u32::from(j.first);
+    let second = u32::from(j.second);
+    match edition {
+        Edition::One => j.kind * 0x0020_0000
+            + j.body1 as u32 * 0x0001_0000
+            + j.body2 as u32 * 0x0800
+            + first * 0x0400
+            + second * 0x0200
+            + j.motor * 0x80
+            + j.zero,
+        Edition::Two => j.kind * 0x0020_0000
+            + j.body1 as u32 * 0x2000
+            + j.body2 as u32 * 0x20
+            + first * 0x10
+            + second * 8
+            + j.motor * 2
+            + j.zero,
     }
 }
 
-// Of so many bodies, which keep their bytes, from a place of the card on, and so many joints behind them.
-fn write_rows(
-    card: &[u8],
-    from: u32,
-    to: u32,
-    at: usize,
-    bodies: usize,
-    joints: usize,
-    out: &mut [u8],
-)
-    requires { Listed from × Listed to × (at + 94 * bodies + 123 * joints ≤ length card.now) × (length out.old ≡ 94 * bodies + 123 * joints) }
-    ensures { out.new ≡ rows_bytes (edition_of from) (edition_of to) card.now (8 * at) bodies joints }
-{
-    let size = BODY_BYTES * bodies;
-    let end = at + size;
-    copy(&card[at..end], out);
-    write_joints(card, from, to, end, joints, &mut out[size..]);
+// From which edition a card is read, and in which it is written.
+#[derive(Clone, Copy)]
+pub struct Way {
+    pub from: Edition,
+    pub to: Edition,
 }
 
-// A card with so many bodies and joints.
-pub fn write_card(card: &[u8], from: u32, to: u32, bodies: usize, joints: usize, out: &mut [u8])
-    requires { Listed from × Listed to × (length card.now ≡ (sizes_of from).header_bytes + 94 * bodies + 123 * joints) × (length out.old ≡ (sizes_of to).header_bytes + 94 * bodies + 123 * joints) }
-    ensures { out.new ≡ card_bytes (edition_of to) (with_edition to (card_with (edition_of from) card.now bodies joints)) }
-{
-    let read = sizes_of(from).header_bytes;
-    let written = sizes_of(to).header_bytes;
-    write_header(&card[..read], from, to, &mut out[..written]);
-    write_rows(card, from, to, read, bodies, joints, &mut out[written..]);
+impl Way {
+    // The floats at a header's end keep their bytes.
+    fn write_header(self, part: &[u8], out: &mut [u8])
+        requires { (length part.now ≡ (sizes_of self.from).header_bytes) × (length out.old ≡ (sizes_of self.to).header_bytes) }
+        ensures { out.new ≡ record_bytes (edition_of (edition_number self.to)).header (set (numbers_at (edition_of (edition_number self.from)).header part.now 0) 0 (edition_number self.to)) }
+    {
+        let h = header_bits(part, self.from);
+        let read = part.len() - GRAVITY;
+        let written = out.len() - GRAVITY;
+        out[written..].copy_from_slice(&part[read..]);
+        write_header_bits(h, self.to, out);
+    }
+
+    fn write_joint(self, part: &[u8], out: &mut [u8])
+        requires { (length part.now ≡ 123) × (length out.old ≡ 123) }
+        ensures { out.new ≡ record_bytes (edition_of (edition_number self.to)).joint (numbers_at (edition_of (edition_number self.from)).joint part.now 0) }
+    {
+        let b = joint_bits_in(joint_bits(part, self.from), self.to);
+        out.copy_from_slice(part);
+        out[..3].copy_from_slice(&b.to_be_bytes()[1..]);
+    }
+
+    // Of so many joints, from a place of the card on.
+    fn write_joints(self, card: &[u8], at: usize, joints: usize, out: &mut [u8])
+        requires { (at + 123 * joints ≤ length card.now) × (length out.old ≡ 123 * joints) }
+        ensures { out.new ≡ concat (map (record_bytes (edition_of (edition_number self.to)).joint) (records_at (edition_of (edition_number self.from)).joint card.now (8 * at) joints)) }
+    {
+        for i in 0..joints {
+            let start = JOINT_BYTES * i;
+            let end = start + JOINT_BYTES;
+            self.write_joint(&card[at + start..at + end], &mut out[start..end]);
+        }
+    }
+
+    // Of so many bodies, which keep their bytes, from a place of the card on, and so many joints behind them.
+    fn write_rows(self, card: &[u8], at: usize, bodies: usize, joints: usize, out: &mut [u8])
+        requires { (at + 94 * bodies + 123 * joints ≤ length card.now) × (length out.old ≡ 94 * bodies + 123 * joints) }
+        ensures { out.new ≡ rows_bytes (edition_of (edition_number self.from)) (edition_of (edition_number self.to)) card.now (8 * at) bodies joints }
+    {
+        let size = BODY_BYTES * bodies;
+        let end = at + size;
+        out[..size].copy_from_slice(&card[at..end]);
+        self.write_joints(card, end, joints, &mut out[size..]);
+    }
+
+    // A card with so many bodies and joints.
+    pub fn write_card(self, card: &[u8], bodies: usize, joints: usize, out: &mut [u8])
+        requires { (length card.now ≡ (sizes_of self.from).header_bytes + 94 * bodies + 123 * joints) × (length out.old ≡ (sizes_of self.to).header_bytes + 94 * bodies + 123 * joints) }
+        ensures { out.new ≡ card_bytes (edition_of (edition_number self.to)) (with_edition (edition_number self.to) (card_with (edition_of (edition_number self.from)) card.now bodies joints)) }
+    {
+        let read = self.from.sizes().header_bytes;
+        let written = self.to.sizes().header_bytes;
+        self.write_header(&card[..read], &mut out[..written]);
+        self.write_rows(card, read, bodies, joints, &mut out[written..]);
+    }
 }

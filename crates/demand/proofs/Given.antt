@@ -21,7 +21,8 @@ use Rattle.laws.proofs.Step.{step_held}
 use Rattle.xpbd_joints.specs.Steps.{steps_of}
 use Rattle.stages.proofs.Choice.{either}
 use Rattle.stages.proofs.Vec.{Held3}
-use Rattle.stages.proofs.Sound.{SettingOk, StepOk, All}
+use Rattle.std.specs.List.{AllByRecursion}
+use Rattle.stages.proofs.Sound.{SettingOk, StepOk}
 use Rattle.card.specs.Format.{Cell, width_of, numbers_at, records_at}
 use Rattle.card.specs.Card.{at, flag, body, joint, edition_at, Card, card_of}
 use Rattle.card.specs.Checks.{check_of}
@@ -29,7 +30,7 @@ use Rattle.card.specs.Accepted.{Real, Ranged, AcceptedCard}
 use Rattle.card.proofs.Cut.{records_length, record_at}
 use Rattle.card.proofs.Cells.{flat}
 use Rattle.card.proofs.Editions.{joint_rows, JointOf, joint_of_lem, joint_numbers_lem}
-use Rattle.card.proofs.Accepted.{accepted}
+use Rattle.card.proofs.Accepted.{accepted, edition}
 use Rattle.loader.specs.Linkage.{Linkage, angular_motor_in, linear_motor_in, fixed_in, revolute_in, prismatic_in, spherical_in, distance_in, kind_in, body_in, body_of, joint_of, linkage_of}
 use Rattle.loader.specs.declared.body.LinkBody.{LinkBody}
 use Rattle.state.specs.State.{body_at}
@@ -82,7 +83,7 @@ Compliant (Prismatic j) = Soft j.angle_compliance × Soft j.align_compliance × 
 Compliant (Spherical j) = Soft j.point_compliance × Soft j.swing_compliance × Soft j.twist_compliance
 Compliant (Distance j) = Soft j.compliance
 
-steps_of_ok : (j : Joint) → Compliant j → (b₁ b₂ : RigidBody) → All StepOk (steps_of j b₁ b₂)
+steps_of_ok : (j : Joint) → Compliant j → (b₁ b₂ : RigidBody) → AllByRecursion StepOk (steps_of j b₁ b₂)
 unfolding steps_of
 steps_of_ok (Fixed j) h b₁ b₂ = (h.1, (h.0, tt))
 steps_of_ok (Revolute j) h b₁ b₂ = (h.1, (h.3, (h.2, (h.0, tt))))
@@ -170,10 +171,11 @@ module _ (card : List ℕ) (z : check_of card ≡ 0) (s : List Float) where
           m₂ = masses_held _ (mass_held k.body2 (rw (joint_is j) n.body2));
         }
 
-    pub steps_ok : All StepOk (tick.steps L s j)
+    pub steps_ok : AllByRecursion StepOk (tick.steps L s j)
     unfolding tick.steps card_of
     steps_ok =
-        let compliant = joint_compliant (edition_at card).joint (joint_of_lem _ (accepted card z).edition) card in
+        let J : JointOf (edition_at card).joint = rw (edition card z).1 at (joint_of_lem (edition card z).0) in
+        let compliant = joint_compliant (edition_at card).joint J card in
         steps_of_ok (tick.joint L j).joint
         (rw (joint_is j) (each_has (λ ns. Compliant (joint_of ns).joint) (edition_at card).joint card compliant _ _ j h (has.joint j h).ranged))
         _ _

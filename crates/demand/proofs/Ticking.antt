@@ -10,7 +10,8 @@ use lib.Ieee.Fits.{and_l, and_r}
 use borrow.Author.Tests.{not-false}
 use Rattle.xpbd_joints.specs.Steps.{no_totals}
 use Rattle.xpbd_joints.specs.Steps.{Run, events}
-use Rattle.stages.proofs.Sound.{EventSound, All, steps_sound}
+use Rattle.std.specs.List.{AllByRecursion}
+use Rattle.stages.proofs.Sound.{EventSound, steps_sound}
 use Rattle.card.specs.Card.{card_of}
 use Rattle.card.proofs.Bools.{or_left}
 use Rattle.numbers.specs.Lists.{all, after}
@@ -57,7 +58,7 @@ module _ (K : Linkage) (s : List Float) where
 
 -- ---- the tick
 
-pub tick_sound : (card : List ℕ) (s : List Float) → (tick_of card s).number ≡ 0 → (j : ℕ) → j < length (card_of card).joints → All EventSound (events_at (turned_linkage (linkage_of (card_of card)) s) s j)
+pub tick_sound : (card : List ℕ) (s : List Float) → (tick_of card s).number ≡ 0 → (j : ℕ) → j < length (card_of card).joints → AllByRecursion EventSound (events_at (turned_linkage (linkage_of (card_of card)) s) s j)
 unfolding events_at linkage_of turned_linkage
 tick_sound card s e j l =
     let K = turned_linkage (linkage_of (card_of card)) s in

@@ -3,25 +3,22 @@
 // A joint's call takes the card's kind, its limit bits (first 1, second 2), its motor, which body is anchored (0 none, 1, 2), both bodies' locks,
 // and 95 numbers: the joint's 30 in the card's order, two poses (20), the last tick's motor total (3), two bodies (26), two inertias (14), the warm
 // coefficient and dt.
-ghost use Rattle.std.specs.Prelude.{◌<◌};
-ghost use Rattle.joints.specs.Reach.{InReach, IfLimited, EachAngleLimit};
+ghost use Rattle.std.specs.Prelude.{IfSome};
+ghost use Rattle.joints.specs.Reach.{InReach, EachAngleLimit};
 
-use crate::corrections::put_point;
-use crate::limits::{angle_limit, angular_motor, linear_motor};
-use crate::slices::{
-    inertia, number, put, put_body_pair, put_quat, put_solver_body, put_tensor, put_vec3, quat,
-    rigid_body, solver_body, vec3,
-};
+use crate::limits::{MotorNumbers, angle_limit};
+use crate::slices::{FromNumbers, Inertia, ToNumbers, convert};
 use joints::distance::DistanceJoint;
 use joints::fixed::FixedJoint;
 use joints::prismatic::PrismaticJoint;
 use joints::revolute::RevoluteJoint;
 use joints::spherical::SphericalJoint;
-use joints::{DistanceLimit, DistanceLimitOption, Joint, JointFrame};
+use joints::{DistanceLimit, Joint, JointFrame};
 use solver_body::{BodyPair, RigidBody, SolverBody, SolverBodyInertia};
+use std::slice::{Iter, IterMut};
 use tick::body::{project_angular_velocity, project_linear_velocity};
 use tick::joint::{solve_joint, warm_start_joint};
-use vector::Vec3;
+use vector::{Quat, Vec3};
 use xpbd_joints::JointTotals;
 use xpbd_joints::distance::DistanceJointSolverData;
 use xpbd_joints::fixed::FixedJointSolverData;
@@ -29,215 +26,249 @@ use xpbd_joints::prismatic::PrismaticJointSolverData;
 use xpbd_joints::revolute::RevoluteJointSolverData;
 use xpbd_joints::spherical::SphericalJointSolverData;
 
-fn distance_limit(limited: bool, input: &[f32], i: usize) -> DistanceLimitOption
-    requires { i < 4000 }
-{
-    if limited {
-        DistanceLimitOption::Limited(DistanceLimit {
-            min: number(input, i),
-            max: number(input, i + 1),
-        })
-    } else {
-        DistanceLimitOption::Unlimited
+// A joint's 30 numbers: the fourth compliance, which no kind here has, is left out of what is made of them.
+#[derive(Clone, Copy)]
+struct JointNumbers {
+    frame1: JointFrame,
+    frame2: JointFrame,
+    axis: Vec3,
+    compliances: (f32, f32, f32, f32),
+    limit1: DistanceLimit,
+    limit2: DistanceLimit,
+    motor: MotorNumbers,
+}
+
+impl FromNumbers for JointNumbers {
+    fn read(from: &mut Iter<'_, f32>) -> JointNumbers {
+        let ((anchor1, anchor2), (basis1, basis2), axis, compliances) = FromNumbers::read(from);
+        let (limit1, limit2, motor) = FromNumbers::read(from);
+        JointNumbers {
+            frame1: JointFrame {
+                anchor: anchor1,
+                basis: basis1,
+            },
+            frame2: JointFrame {
+                anchor: anchor2,
+                basis: basis2,
+            },
+            axis,
+            compliances,
+            limit1,
+            limit2,
+            motor,
+        }
     }
 }
 
-fn frame1(input: &[f32]) -> JointFrame {
-    JointFrame {
-        anchor: vec3(input, 0),
-        basis: quat(input, 6),
+impl JointNumbers {
+    fn fixed(self) -> FixedJoint {
+        FixedJoint {
+            frame1: self.frame1,
+            frame2: self.frame2,
+            point_compliance: self.compliances.0,
+            angle_compliance: self.compliances.1,
+        }
+    }
+
+    fn revolute(self, limited: bool, motor: u32) -> RevoluteJoint
+        ensures { IfSome result.angle_limit InReach }
+    {
+        RevoluteJoint {
+            frame1: self.frame1,
+            frame2: self.frame2,
+            hinge_axis: self.axis,
+            angle_limit: angle_limit(limited, self.limit1.min, self.limit1.max),
+            point_compliance: self.compliances.0,
+            align_compliance: self.compliances.1,
+            limit_compliance: self.compliances.2,
+            motor: self.motor.angular(motor),
+        }
+    }
+
+    fn prismatic(self, limited: bool, motor: u32) -> PrismaticJoint {
+        PrismaticJoint {
+            frame1: self.frame1,
+            frame2: self.frame2,
+            slider_axis: self.axis,
+            limits: if limited { Some(self.limit1) } else { None },
+            angle_compliance: self.compliances.0,
+            align_compliance: self.compliances.1,
+            motor: self.motor.linear(motor),
+        }
+    }
+
+    fn spherical(self, swing_limited: bool, twist_limited: bool) -> SphericalJoint
+        ensures { IfSome result.swing_limit InReach × IfSome result.twist_limit InReach }
+    {
+        SphericalJoint {
+            frame1: self.frame1,
+            frame2: self.frame2,
+            twist_axis: self.axis,
+            swing_limit: angle_limit(swing_limited, self.limit1.min, self.limit1.max),
+            twist_limit: angle_limit(twist_limited, self.limit2.min, self.limit2.max),
+            point_compliance: self.compliances.0,
+            swing_compliance: self.compliances.1,
+            twist_compliance: self.compliances.2,
+        }
+    }
+
+    fn distance(self) -> DistanceJoint {
+        DistanceJoint {
+            anchor1: self.frame1.anchor,
+            anchor2: self.frame2.anchor,
+            limits: self.limit1,
+            compliance: self.compliances.0,
+        }
+    }
+
+    // The card's kinds; any number above 4 is as 4.
+    fn joint(self, kind: u32, limits: u32, motor: u32) -> Joint
+        ensures { EachAngleLimit InReach result }
+    {
+        let first = limits % 2 == 1;
+        let second = limits / 2 % 2 == 1;
+        match kind {
+            0 => Joint::Fixed(self.fixed()),
+            1 => Joint::Revolute(self.revolute(first, motor)),
+            2 => Joint::Prismatic(self.prismatic(first, motor)),
+            3 => Joint::Spherical(self.spherical(first, second)),
+            _ => Joint::Distance(self.distance()),
+        }
     }
 }
 
-fn frame2(input: &[f32]) -> JointFrame {
-    JointFrame {
-        anchor: vec3(input, 3),
-        basis: quat(input, 10),
+// What a joint's call reads.
+#[derive(Clone, Copy)]
+struct JointInput {
+    joint: JointNumbers,
+    poses: (RigidBody, RigidBody),
+    motor_total: Vec3,
+    bodies: BodyPair,
+    inertias: (Inertia, Inertia),
+    warm_coefficient: f32,
+    dt: f32,
+}
+
+impl FromNumbers for JointInput {
+    fn read(from: &mut Iter<'_, f32>) -> JointInput {
+        let (joint, poses, motor_total) = FromNumbers::read(from);
+        let (bodies, inertias, warm_coefficient, dt) = FromNumbers::read(from);
+        JointInput {
+            joint,
+            poses,
+            motor_total,
+            bodies,
+            inertias,
+            warm_coefficient,
+            dt,
+        }
     }
 }
 
-fn fixed(input: &[f32]) -> FixedJoint {
-    FixedJoint {
-        frame1: frame1(input),
-        frame2: frame2(input),
-        point_compliance: number(input, 17),
-        angle_compliance: number(input, 18),
+// Both bodies and their inertias.
+#[derive(Clone, Copy)]
+struct Sides {
+    bodies: BodyPair,
+    inertia1: SolverBodyInertia,
+    inertia2: SolverBodyInertia,
+}
+
+impl JointInput {
+    // The totals of the last tick: all zero but the motor's.
+    fn last_totals(&self, kind: u32) -> JointTotals {
+        match kind {
+            1 => JointTotals {
+                fourth: self.motor_total,
+                ..JointTotals::ZERO
+            },
+            2 => JointTotals {
+                third: self.motor_total,
+                ..JointTotals::ZERO
+            },
+            _ => JointTotals::ZERO,
+        }
+    }
+
+    fn sides(&self, anchored: u32, locks1: u32, locks2: u32) -> Sides {
+        let mut sides = Sides {
+            bodies: self.bodies,
+            inertia1: self.inertias.0.locked(locks1),
+            inertia2: self.inertias.1.locked(locks2),
+        };
+        if anchored == 1 {
+            sides.bodies.body1 = SolverBody::DUMMY;
+            sides.inertia1 = SolverBodyInertia::DUMMY;
+        }
+        if anchored == 2 {
+            sides.bodies.body2 = SolverBody::DUMMY;
+            sides.inertia2 = SolverBodyInertia::DUMMY;
+        }
+        sides
     }
 }
 
-fn revolute(input: &[f32], limited: bool, motor: u32) -> RevoluteJoint
-    ensures { IfLimited InReach result.angle_limit }
-{
-    RevoluteJoint {
-        frame1: frame1(input),
-        frame2: frame2(input),
-        hinge_axis: vec3(input, 14),
-        angle_limit: angle_limit(limited, input, 21),
-        point_compliance: number(input, 17),
-        align_compliance: number(input, 18),
-        limit_compliance: number(input, 19),
-        motor: angular_motor(input, 25, motor),
+impl ToNumbers for FixedJointSolverData {
+    fn write(self, to: &mut IterMut<'_, f32>) {
+        (
+            self.point_constraint,
+            self.angle_constraint.rotation_difference,
+        )
+            .write(to);
     }
 }
 
-fn prismatic(input: &[f32], limited: bool, motor: u32) -> PrismaticJoint {
-    PrismaticJoint {
-        frame1: frame1(input),
-        frame2: frame2(input),
-        slider_axis: vec3(input, 14),
-        limits: distance_limit(limited, input, 21),
-        angle_compliance: number(input, 17),
-        align_compliance: number(input, 18),
-        motor: linear_motor(input, 25, motor),
+impl ToNumbers for RevoluteJointSolverData {
+    fn write(self, to: &mut IterMut<'_, f32>) {
+        (self.point_constraint, (self.a1, self.a2, self.b1, self.b2)).write(to);
     }
 }
 
-fn spherical(input: &[f32], swing_limited: bool, twist_limited: bool) -> SphericalJoint
-    ensures { IfLimited InReach result.swing_limit × IfLimited InReach result.twist_limit }
-{
-    SphericalJoint {
-        frame1: frame1(input),
-        frame2: frame2(input),
-        twist_axis: vec3(input, 14),
-        swing_limit: angle_limit(swing_limited, input, 21),
-        twist_limit: angle_limit(twist_limited, input, 23),
-        point_compliance: number(input, 17),
-        swing_compliance: number(input, 18),
-        twist_compliance: number(input, 19),
+impl ToNumbers for PrismaticJointSolverData {
+    fn write(self, to: &mut IterMut<'_, f32>) {
+        (
+            (self.world_r1, self.world_r2, self.center_difference),
+            self.free_axis1,
+            self.angle_constraint.rotation_difference,
+        )
+            .write(to);
     }
 }
 
-fn distance(input: &[f32]) -> DistanceJoint {
-    DistanceJoint {
-        anchor1: vec3(input, 0),
-        anchor2: vec3(input, 3),
-        limits: DistanceLimit {
-            min: number(input, 21),
-            max: number(input, 22),
-        },
-        compliance: number(input, 17),
+impl ToNumbers for SphericalJointSolverData {
+    fn write(self, to: &mut IterMut<'_, f32>) {
+        (
+            self.point_constraint,
+            (
+                self.swing_axis1,
+                self.swing_axis2,
+                self.twist_axis1,
+                self.twist_axis2,
+            ),
+        )
+            .write(to);
     }
 }
 
-// The card's kinds; any number above 4 is as 4.
-fn joint(kind: u32, limits: u32, motor: u32, input: &[f32]) -> Joint
-    ensures { EachAngleLimit InReach result }
-{
-    let first = limits % 2 == 1;
-    let second = limits / 2 % 2 == 1;
-    match kind {
-        0 => Joint::Fixed(fixed(input)),
-        1 => Joint::Revolute(revolute(input, first, motor)),
-        2 => Joint::Prismatic(prismatic(input, first, motor)),
-        3 => Joint::Spherical(spherical(input, first, second)),
-        _ => Joint::Distance(distance(input)),
+impl ToNumbers for DistanceJointSolverData {
+    fn write(self, to: &mut IterMut<'_, f32>) {
+        (self.world_r1, self.world_r2, self.center_difference).write(to);
     }
 }
 
-// The totals of the last tick: all zero but the motor's.
-fn last_totals(kind: u32, input: &[f32]) -> JointTotals {
-    let mut totals = JointTotals::ZERO;
-    let motor_total = vec3(input, 50);
-    if kind == 1 {
-        totals.fourth = motor_total;
-    }
-    if kind == 2 {
-        totals.third = motor_total;
-    }
-    totals
-}
-
-fn body(anchored: bool, input: &[f32], i: usize) -> SolverBody
-    requires { i < 4000 }
-{
-    if anchored {
-        SolverBody::DUMMY
-    } else {
-        solver_body(input, i)
-    }
-}
-
-fn body_inertia(anchored: bool, input: &[f32], i: usize, locks: u32) -> SolverBodyInertia
-    requires { i < 4000 }
-{
-    if anchored {
-        SolverBodyInertia::DUMMY
-    } else {
-        inertia(input, i, locks)
-    }
-}
-
-fn bodies(anchored: u32, input: &[f32]) -> BodyPair {
-    BodyPair {
-        body1: body(anchored == 1, input, 53),
-        body2: body(anchored == 2, input, 66),
-    }
-}
-
-fn put_fixed(output: &mut [f32], data: FixedJointSolverData) {
-    put_point(output, data.point_constraint);
-    put_quat(output, 9, data.angle_constraint.rotation_difference);
-}
-
-fn put_four(output: &mut [f32], a: Vec3, b: Vec3, c: Vec3, d: Vec3) {
-    put_vec3(output, 9, a);
-    put_vec3(output, 12, b);
-    put_vec3(output, 15, c);
-    put_vec3(output, 18, d);
-}
-
-fn put_revolute(output: &mut [f32], data: RevoluteJointSolverData) {
-    put_point(output, data.point_constraint);
-    put_four(output, data.a1, data.a2, data.b1, data.b2);
-}
-
-fn put_arms(output: &mut [f32], world_r1: Vec3, world_r2: Vec3, center_difference: Vec3) {
-    put_vec3(output, 0, world_r1);
-    put_vec3(output, 3, world_r2);
-    put_vec3(output, 6, center_difference);
-}
-
-fn put_prismatic(output: &mut [f32], data: PrismaticJointSolverData) {
-    put_arms(output, data.world_r1, data.world_r2, data.center_difference);
-    put_vec3(output, 9, data.free_axis1);
-    put_quat(output, 12, data.angle_constraint.rotation_difference);
-}
-
-fn put_spherical(output: &mut [f32], data: SphericalJointSolverData) {
-    put_point(output, data.point_constraint);
-    put_four(
-        output,
-        data.swing_axis1,
-        data.swing_axis2,
-        data.twist_axis1,
-        data.twist_axis2,
-    );
-}
-
-fn put_distance(output: &mut [f32], data: DistanceJointSolverData) {
-    put_arms(output, data.world_r1, data.world_r2, data.center_difference);
-}
+// A joint between two poses.
+struct Prepared(Joint, RigidBody, RigidBody);
 
 // The kind's prepared numbers, at most 21; the others are left.
-fn put_prepared(output: &mut [f32], joint: Joint, body1: RigidBody, body2: RigidBody) {
-    match joint {
-        Joint::Fixed(joint) => put_fixed(output, xpbd_joints::fixed::prepare(joint, body1, body2)),
-        Joint::Revolute(joint) => put_revolute(
-            output,
-            xpbd_joints::revolute::prepare(joint, body1, body2),
-        ),
-        Joint::Prismatic(joint) => put_prismatic(
-            output,
-            xpbd_joints::prismatic::prepare(joint, body1, body2),
-        ),
-        Joint::Spherical(joint) => put_spherical(
-            output,
-            xpbd_joints::spherical::prepare(joint, body1, body2),
-        ),
-        Joint::Distance(joint) => put_distance(
-            output,
-            xpbd_joints::distance::prepare(joint, body1, body2),
-        ),
+impl ToNumbers for Prepared {
+    fn write(self, to: &mut IterMut<'_, f32>) {
+        let Prepared(joint, body1, body2) = self;
+        match joint {
+            Joint::Fixed(j) => FixedJointSolverData::prepare(j, body1, body2).write(to),
+            Joint::Revolute(j) => RevoluteJointSolverData::prepare(j, body1, body2).write(to),
+            Joint::Prismatic(j) => PrismaticJointSolverData::prepare(j, body1, body2).write(to),
+            Joint::Spherical(j) => SphericalJointSolverData::prepare(j, body1, body2).write(to),
+            Joint::Distance(j) => DistanceJointSolverData::prepare(j, body1, body2).write(to),
+        }
     }
 }
 
@@ -250,19 +281,10 @@ pub extern "C" fn linkage_prepare(
     input: &[f32],
     output: &mut [f32],
 ) -> u32 {
-    if input.len() != 95 {
-        return 1;
-    }
-    if output.len() != 21 {
-        return 1;
-    }
-    put_prepared(
-        output,
-        joint(kind, limits, motor, input),
-        rigid_body(input, 30),
-        rigid_body(input, 40),
-    );
-    0
+    convert(input, 95, output, 21, |input: JointInput| {
+        let joint = input.joint.joint(kind, limits, motor);
+        Prepared(joint, input.poses.0, input.poses.1)
+    })
 }
 
 // Both bodies after the warm start (26).
@@ -277,38 +299,26 @@ pub extern "C" fn linkage_warm_start(
     input: &[f32],
     output: &mut [f32],
 ) -> u32 {
-    if input.len() != 95 {
-        return 1;
-    }
-    if output.len() != 26 {
-        return 1;
-    }
-    let warmed = warm_start_joint(
-        joint(kind, limits, motor, input),
-        rigid_body(input, 30),
-        rigid_body(input, 40),
-        last_totals(kind, input),
-        bodies(anchored, input),
-        body_inertia(anchored == 1, input, 79, locks1),
-        body_inertia(anchored == 2, input, 86, locks2),
-        number(input, 93),
-        number(input, 94),
-    );
-    put_body_pair(output, 0, warmed);
-    0
+    convert(input, 95, output, 26, |input: JointInput| {
+        let sides = input.sides(anchored, locks1, locks2);
+        warm_start_joint(
+            input.joint.joint(kind, limits, motor),
+            input.poses.0,
+            input.poses.1,
+            input.last_totals(kind),
+            sides.bodies,
+            sides.inertia1,
+            sides.inertia2,
+            input.warm_coefficient,
+            input.dt,
+        )
+    })
 }
 
-fn one_where(holds: bool) -> f32 {
-    if holds { 1.0 } else { 0.0 }
-}
-
-fn put_totals(output: &mut [f32], i: usize, totals: JointTotals)
-    requires { i < 4000 }
-{
-    put_vec3(output, i, totals.first);
-    put_vec3(output, i + 3, totals.second);
-    put_vec3(output, i + 6, totals.third);
-    put_vec3(output, i + 9, totals.fourth);
+impl ToNumbers for JointTotals {
+    fn write(self, to: &mut IterMut<'_, f32>) {
+        (self.first, self.second, self.third, self.fourth).write(to);
+    }
 }
 
 // 1 where after the solve all numbers that refusal 13 looks at are finite, else 0; the four totals and both bodies (39).
@@ -323,55 +333,33 @@ pub extern "C" fn linkage_solve(
     input: &[f32],
     output: &mut [f32],
 ) -> u32 {
-    if input.len() != 95 {
-        return 1;
-    }
-    if output.len() != 39 {
-        return 1;
-    }
-    let solved = solve_joint(
-        joint(kind, limits, motor, input),
-        rigid_body(input, 30),
-        rigid_body(input, 40),
-        bodies(anchored, input),
-        body_inertia(anchored == 1, input, 79, locks1),
-        body_inertia(anchored == 2, input, 86, locks2),
-        number(input, 94),
-    );
-    put(output, 0, one_where(solved.finite));
-    put_totals(output, 1, solved.totals);
-    put_body_pair(output, 13, solved.bodies);
-    0
-}
-
-// Inverse mass, inverse inertia, the locks as 0 or 1: 10 numbers.
-fn put_inertia(output: &mut [f32], i: usize, body: SolverBodyInertia)
-    requires { i < 4000 }
-{
-    put(output, i, body.inv_mass);
-    put_tensor(output, i + 1, body.inv_angular_inertia);
-    put(output, i + 7, one_where(body.translation_x_locked));
-    put(output, i + 8, one_where(body.translation_y_locked));
-    put(output, i + 9, one_where(body.translation_z_locked));
+    convert(input, 95, output, 39, |input: JointInput| {
+        let sides = input.sides(anchored, locks1, locks2);
+        let solved = solve_joint(
+            input.joint.joint(kind, limits, motor),
+            input.poses.0,
+            input.poses.1,
+            sides.bodies,
+            sides.inertia1,
+            sides.inertia2,
+            input.dt,
+        );
+        (solved.finite, solved.totals, solved.bodies)
+    })
 }
 
 // A body, its pre-solve deltas, dt (21) to the body with both velocities projected (13).
 #[unsafe(no_mangle)]
 pub extern "C" fn linkage_project(input: &[f32], output: &mut [f32]) -> u32 {
-    if input.len() != 21 {
-        return 1;
-    }
-    if output.len() != 13 {
-        return 1;
-    }
-    let dt = number(input, 20);
-    let linear = project_linear_velocity(solver_body(input, 0), vec3(input, 13), dt);
-    put_solver_body(
+    convert(
+        input,
+        21,
         output,
-        0,
-        project_angular_velocity(linear, quat(input, 16), dt),
-    );
-    0
+        13,
+        |(body, position, rotation, dt): (SolverBody, Vec3, Quat, f32)| {
+            project_angular_velocity(project_linear_velocity(body, position, dt), rotation, dt)
+        },
+    )
 }
 
 // The dummy body and the dummy inertia (23).
@@ -380,7 +368,6 @@ pub extern "C" fn linkage_dummy(output: &mut [f32]) -> u32 {
     if output.len() != 23 {
         return 1;
     }
-    put_solver_body(output, 0, SolverBody::DUMMY);
-    put_inertia(output, 13, SolverBodyInertia::DUMMY);
+    (SolverBody::DUMMY, SolverBodyInertia::DUMMY).write(&mut output.iter_mut());
     0
 }

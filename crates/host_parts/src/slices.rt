@@ -1,138 +1,224 @@
-// Numbers in a lent slice, by place: a place past the end reads as zero, and nothing is written there.
-ghost use Rattle.std.specs.Prelude.{◌<◌};
-
+// Values as numbers, one behind the other, in a lent slice.
 use solver_body::{BodyPair, RigidBody, SolverBody, SolverBodyInertia};
+use std::slice::{Iter, IterMut};
 use vector::{Quat, SymmetricTensor, Vec3};
 
-pub fn number(s: &[f32], i: usize) -> f32 {
-    if i < s.len() { s[i] } else { 0.0 }
+// What is read past the end is zero.
+pub trait FromNumbers: Sized {
+    fn read(from: &mut Iter<'_, f32>) -> Self;
 }
 
-pub fn vec3(s: &[f32], i: usize) -> Vec3
-    requires { i < 4096 }
+// Nothing is written past the end.
+pub trait ToNumbers {
+    fn write(self, to: &mut IterMut<'_, f32>);
+}
+
+// From so many numbers to so many: 1, and nothing is written, where a slice has another length, else 0.
+pub fn convert<I: FromNumbers, O: ToNumbers, F: FnOnce(I) -> O>(
+    input: &[f32],
+    inputs: usize,
+    output: &mut [f32],
+    outputs: usize,
+    f: F,
+) -> u32
+    requires { F.IsAlwaysCallable f }
 {
-    Vec3 {
-        x: number(s, i),
-        y: number(s, i + 1),
-        z: number(s, i + 2),
+    if input.len() != inputs || output.len() != outputs {
+        return 1;
+    }
+    f(I::read(&mut input.iter())).write(&mut output.iter_mut());
+    0
+}
+
+impl FromNumbers for f32 {
+    fn read(from: &mut Iter<'_, f32>) -> f32 {
+        from.next().copied().unwrap_or(0.0)
     }
 }
 
-pub fn quat(s: &[f32], i: usize) -> Quat
-    requires { i < 4096 }
-{
-    Quat {
-        x: number(s, i),
-        y: number(s, i + 1),
-        z: number(s, i + 2),
-        w: number(s, i + 3),
+impl ToNumbers for f32 {
+    fn write(self, to: &mut IterMut<'_, f32>) {
+        if let Some(x) = to.next() {
+            *x = self;
+        }
     }
 }
 
-pub fn tensor(s: &[f32], i: usize) -> SymmetricTensor
-    requires { i < 4096 }
-{
-    SymmetricTensor {
-        xx: number(s, i),
-        xy: number(s, i + 1),
-        xz: number(s, i + 2),
-        yy: number(s, i + 3),
-        yz: number(s, i + 4),
-        zz: number(s, i + 5),
+// 1 where it holds.
+impl ToNumbers for bool {
+    fn write(self, to: &mut IterMut<'_, f32>) {
+        let x: f32 = if self { 1.0 } else { 0.0 };
+        x.write(to);
     }
 }
 
-// Position, rotation, centre of mass: 10 numbers.
-pub fn rigid_body(s: &[f32], i: usize) -> RigidBody
-    requires { i < 4000 }
-{
-    RigidBody {
-        position: vec3(s, i),
-        rotation: quat(s, i + 3),
-        center_of_mass: vec3(s, i + 7),
+impl<A: FromNumbers, B: FromNumbers> FromNumbers for (A, B) {
+    fn read(from: &mut Iter<'_, f32>) -> (A, B) {
+        (A::read(from), B::read(from))
     }
 }
 
-// Both velocities, the position's and the rotation's delta: 13 numbers.
-pub fn solver_body(s: &[f32], i: usize) -> SolverBody
-    requires { i < 4000 }
-{
-    SolverBody {
-        linear_velocity: vec3(s, i),
-        angular_velocity: vec3(s, i + 3),
-        delta_position: vec3(s, i + 6),
-        delta_rotation: quat(s, i + 9),
+impl<A: FromNumbers, B: FromNumbers, C: FromNumbers> FromNumbers for (A, B, C) {
+    fn read(from: &mut Iter<'_, f32>) -> (A, B, C) {
+        (A::read(from), B::read(from), C::read(from))
     }
 }
 
-pub fn body_pair(s: &[f32], i: usize) -> BodyPair
-    requires { i < 3900 }
-{
-    BodyPair {
-        body1: solver_body(s, i),
-        body2: solver_body(s, i + 13),
+impl<A: FromNumbers, B: FromNumbers, C: FromNumbers, D: FromNumbers> FromNumbers for (A, B, C, D) {
+    fn read(from: &mut Iter<'_, f32>) -> (A, B, C, D) {
+        (A::read(from), B::read(from), C::read(from), D::read(from))
     }
 }
 
-// Inverse mass and inverse inertia: 7 numbers. The locks of x, y and z count 4, 2 and 1.
-pub fn inertia(s: &[f32], i: usize, locks: u32) -> SolverBodyInertia
-    requires { i < 4000 }
-{
-    SolverBodyInertia {
-        inv_mass: number(s, i),
-        inv_angular_inertia: tensor(s, i + 1),
-        translation_x_locked: locks / 4 % 2 == 1,
-        translation_y_locked: locks / 2 % 2 == 1,
-        translation_z_locked: locks % 2 == 1,
+impl<A: ToNumbers, B: ToNumbers> ToNumbers for (A, B) {
+    fn write(self, to: &mut IterMut<'_, f32>) {
+        self.0.write(to);
+        self.1.write(to);
     }
 }
 
-pub fn put(s: &mut [f32], i: usize, x: f32) {
-    if i < s.len() {
-        s[i] = x;
+impl<A: ToNumbers, B: ToNumbers, C: ToNumbers> ToNumbers for (A, B, C) {
+    fn write(self, to: &mut IterMut<'_, f32>) {
+        self.0.write(to);
+        self.1.write(to);
+        self.2.write(to);
     }
 }
 
-pub fn put_vec3(s: &mut [f32], i: usize, v: Vec3)
-    requires { i < 4096 }
-{
-    put(s, i, v.x);
-    put(s, i + 1, v.y);
-    put(s, i + 2, v.z);
+impl<A: ToNumbers, B: ToNumbers, C: ToNumbers, D: ToNumbers> ToNumbers for (A, B, C, D) {
+    fn write(self, to: &mut IterMut<'_, f32>) {
+        self.0.write(to);
+        self.1.write(to);
+        self.2.write(to);
+        self.3.write(to);
+    }
 }
 
-pub fn put_quat(s: &mut [f32], i: usize, q: Quat)
-    requires { i < 4096 }
-{
-    put(s, i, q.x);
-    put(s, i + 1, q.y);
-    put(s, i + 2, q.z);
-    put(s, i + 3, q.w);
+impl FromNumbers for Vec3 {
+    fn read(from: &mut Iter<'_, f32>) -> Vec3 {
+        let (x, y, z) = FromNumbers::read(from);
+        Vec3 { x, y, z }
+    }
 }
 
-pub fn put_tensor(s: &mut [f32], i: usize, t: SymmetricTensor)
-    requires { i < 4096 }
-{
-    put(s, i, t.xx);
-    put(s, i + 1, t.xy);
-    put(s, i + 2, t.xz);
-    put(s, i + 3, t.yy);
-    put(s, i + 4, t.yz);
-    put(s, i + 5, t.zz);
+impl ToNumbers for Vec3 {
+    fn write(self, to: &mut IterMut<'_, f32>) {
+        (self.x, self.y, self.z).write(to);
+    }
 }
 
-pub fn put_solver_body(s: &mut [f32], i: usize, body: SolverBody)
-    requires { i < 4000 }
-{
-    put_vec3(s, i, body.linear_velocity);
-    put_vec3(s, i + 3, body.angular_velocity);
-    put_vec3(s, i + 6, body.delta_position);
-    put_quat(s, i + 9, body.delta_rotation);
+impl FromNumbers for Quat {
+    fn read(from: &mut Iter<'_, f32>) -> Quat {
+        let (x, y, z, w) = FromNumbers::read(from);
+        Quat { x, y, z, w }
+    }
 }
 
-pub fn put_body_pair(s: &mut [f32], i: usize, bodies: BodyPair)
-    requires { i < 3900 }
-{
-    put_solver_body(s, i, bodies.body1);
-    put_solver_body(s, i + 13, bodies.body2);
+impl ToNumbers for Quat {
+    fn write(self, to: &mut IterMut<'_, f32>) {
+        (self.x, self.y, self.z, self.w).write(to);
+    }
+}
+
+impl FromNumbers for SymmetricTensor {
+    fn read(from: &mut Iter<'_, f32>) -> SymmetricTensor {
+        let ((xx, xy, xz), (yy, yz, zz)) = FromNumbers::read(from);
+        SymmetricTensor {
+            xx,
+            xy,
+            xz,
+            yy,
+            yz,
+            zz,
+        }
+    }
+}
+
+impl ToNumbers for SymmetricTensor {
+    fn write(self, to: &mut IterMut<'_, f32>) {
+        let rows = ((self.xx, self.xy, self.xz), (self.yy, self.yz, self.zz));
+        rows.write(to);
+    }
+}
+
+impl FromNumbers for RigidBody {
+    fn read(from: &mut Iter<'_, f32>) -> RigidBody {
+        let (position, rotation, center_of_mass) = FromNumbers::read(from);
+        RigidBody {
+            position,
+            rotation,
+            center_of_mass,
+        }
+    }
+}
+
+impl FromNumbers for SolverBody {
+    fn read(from: &mut Iter<'_, f32>) -> SolverBody {
+        let (linear_velocity, angular_velocity, delta_position, delta_rotation) = FromNumbers::read(
+            from,
+        );
+        SolverBody {
+            linear_velocity,
+            angular_velocity,
+            delta_position,
+            delta_rotation,
+        }
+    }
+}
+
+impl ToNumbers for SolverBody {
+    fn write(self, to: &mut IterMut<'_, f32>) {
+        (self.linear_velocity, self.angular_velocity).write(to);
+        (self.delta_position, self.delta_rotation).write(to);
+    }
+}
+
+impl FromNumbers for BodyPair {
+    fn read(from: &mut Iter<'_, f32>) -> BodyPair {
+        let (body1, body2) = FromNumbers::read(from);
+        BodyPair { body1, body2 }
+    }
+}
+
+impl ToNumbers for BodyPair {
+    fn write(self, to: &mut IterMut<'_, f32>) {
+        (self.body1, self.body2).write(to);
+    }
+}
+
+// Inverse mass and inverse inertia.
+#[derive(Clone, Copy)]
+pub struct Inertia(f32, SymmetricTensor);
+
+impl FromNumbers for Inertia {
+    fn read(from: &mut Iter<'_, f32>) -> Inertia {
+        let (inv_mass, inv_angular_inertia) = FromNumbers::read(from);
+        Inertia(inv_mass, inv_angular_inertia)
+    }
+}
+
+impl Inertia {
+    // The locks of x, y and z count 4, 2 and 1.
+    pub fn locked(self, locks: u32) -> SolverBodyInertia {
+        SolverBodyInertia {
+            inv_mass: self.0,
+            inv_angular_inertia: self.1,
+            translation_x_locked: locks / 4 % 2 == 1,
+            translation_y_locked: locks / 2 % 2 == 1,
+            translation_z_locked: locks % 2 == 1,
+        }
+    }
+}
+
+// The locks as 0 or 1.
+impl ToNumbers for SolverBodyInertia {
+    fn write(self, to: &mut IterMut<'_, f32>) {
+        (self.inv_mass, self.inv_angular_inertia).write(to);
+        let locked = (
+            self.translation_x_locked,
+            self.translation_y_locked,
+            self.translation_z_locked,
+        );
+        locked.write(to);
+    }
 }

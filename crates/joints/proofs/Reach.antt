@@ -1,4 +1,5 @@
 -- A limit within reach turns within reach.
+use Rattle.std.proofs.lemmas.Option.{IfSome_then}
 use mathlib.Core.Path.{◌≡◌, refl, sym, ap, ◌∙◌, subst}
 use mathlib.Core.Bool.{Bool, true, false, ◌||◌, cond}
 use Prim.Native.Nat.{ℕ, ◌*◌, ◌≤◌, ◌<◌}
@@ -17,12 +18,10 @@ use Rattle.trig.specs.Sine.{sixteen, sin_of, cos_of}
 use Rattle.vector.specs.Rotation.{of_axis_angle, of_angle_in_reach}
 use Rattle.vector.specs.declared.Vec3.{Vec3}
 use Rattle.joints.specs.declared.AngleLimit.{AngleLimit}
-use Rattle.joints.specs.declared.AngleLimitOption.{AngleLimitOption}
-use Rattle.joints.specs.declared.AngleLimitOption.TheVariants.{Unlimited, Limited}
 use Rattle.joints.specs.declared.Joint.{Joint}
 use Rattle.joints.specs.declared.Joint.TheVariants.{Fixed, Revolute, Prismatic, Spherical, Distance}
 use Rattle.joints.specs.Limit.{outside_of, clamped}
-use Rattle.joints.specs.Reach.{InReach, TurnsInReach, IfLimited, EachAngleLimit}
+use Rattle.joints.specs.Reach.{InReach, TurnsInReach, EachAngleLimit}
 
 -- ---- half of at most 7 is at most 16
 
@@ -93,13 +92,9 @@ turns_in_reach l r =
 
 -- ---- of each limit
 
-if_limited : (o : AngleLimitOption) → IfLimited InReach o → IfLimited TurnsInReach o
-if_limited Unlimited r = tt
-if_limited (Limited l) r = turns_in_reach l r
-
 pub each_turns : (j : Joint) → EachAngleLimit InReach j → EachAngleLimit TurnsInReach j
 each_turns (Fixed j) r = tt
-each_turns (Revolute j) r = if_limited j.angle_limit r
+each_turns (Revolute j) r = IfSome_then j.angle_limit r turns_in_reach
 each_turns (Prismatic j) r = tt
-each_turns (Spherical j) r = (if_limited j.swing_limit r.0, if_limited j.twist_limit r.1)
+each_turns (Spherical j) r = (IfSome_then j.swing_limit r.0 turns_in_reach, IfSome_then j.twist_limit r.1 turns_in_reach)
 each_turns (Distance j) r = tt

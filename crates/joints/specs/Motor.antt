@@ -1,12 +1,10 @@
 -- A motor's multiplier by its model, both the Rust's own. Definitions only.
-use Rattle.std.specs.Prelude.{Bool, not, ◌&&◌, Float, if◌then◌else◌}
+use Rattle.std.specs.Prelude.{Bool, not, ◌&&◌, Option, None, Some, Float, if◌then◌else◌}
 use Rattle.std.specs.Float.Ieee.{neg, lt, le}
 use Rattle.scalar.specs.Arith.{◌⊕◌, ◌⊗◌, ◌⊘◌, f0, f1, f2, epsilon, largest, tau}
 use Rattle.scalar.specs.Scalar.{abs_of, clamp_of}
 use Rattle.joints.specs.declared.motor.MotorModel.{MotorModel}
 use Rattle.joints.specs.declared.motor.MotorModel.TheVariants.{SpringDamper, AccelerationBased, ForceBased}
-use Rattle.joints.specs.declared.motor.MotorLagrange.{MotorLagrange}
-use Rattle.joints.specs.declared.motor.MotorLagrange.TheVariants.{None, Some}
 
 -- implicit Euler, with ω = 2π f: (ω² x + 2ζω v) h / (1 + 2ζω h + ω² h²)
 unfoldable pub spring_damper_change : Float → Float → Float → Float → Float → Float
@@ -29,11 +27,11 @@ capped Δλ cap h =
     if lt cap largest && lt f0 cap then clamp_of Δλ (neg most) most else Δλ
 
 -- none where the correction is negligible
-unfoldable pub motor_lagrange : MotorModel → Float → Float → Float → Float → Float → MotorLagrange
+unfoldable pub motor_lagrange : MotorModel → Float → Float → Float → Float → Float → Option Float
 motor_lagrange model cap v x w h =
     let correction = velocity_change model v x w h ⊗ h in
     if le (abs_of correction) epsilon then None else Some (capped (correction ⊘ w) cap h)
 
 -- none where the motor is off or both bodies are as good as fixed
-unfoldable pub unless_off : Bool → Float → MotorLagrange → MotorLagrange
+unfoldable pub unless_off : Bool → Float → Option Float → Option Float
 unless_off enabled w given = if not enabled then None else if le w epsilon then None else given

@@ -1,5 +1,5 @@
 -- Angle limits within reach: at most 7 in size, which refusal 19 asks of every card. What a limit clamps an angle to is then within what the sine takes.
-use Rattle.std.specs.Prelude.{◌≡◌, true, false, T, Float}
+use Rattle.std.specs.Prelude.{◌≡◌, true, false, T, Float, IfSome}
 use Rattle.std.specs.Float.{nan}
 use Rattle.std.specs.Float.Ieee.{le}
 use Rattle.scalar.specs.Arith.{◌⊗◌, f7, half}
@@ -9,8 +9,6 @@ use Rattle.vector.specs.Rotation.{of_axis_angle, of_angle_in_reach}
 use Rattle.vector.specs.declared.Vec3.{Vec3}
 use Rattle.joints.specs.Limit.{outside_of, clamped}
 use Rattle.joints.specs.declared.AngleLimit.{AngleLimit}
-use Rattle.joints.specs.declared.AngleLimitOption.{AngleLimitOption}
-use Rattle.joints.specs.declared.AngleLimitOption.TheVariants.{Unlimited, Limited}
 use Rattle.joints.specs.declared.Joint.{Joint}
 use Rattle.joints.specs.declared.Joint.TheVariants.{Fixed, Revolute, Prismatic, Spherical, Distance}
 
@@ -24,15 +22,10 @@ pub record TurnsInReach (l : AngleLimit) : Type 0 where
   pub turn : (φ : Float) → outside_of l φ ≡ true → (n : Vec3) → of_angle_in_reach n (clamped l φ) ≡ of_axis_angle n (clamped l φ)
   pub no_angle : outside_of l nan ≡ false
 
--- P of a limit, where there is one
-abbrev pub IfLimited : (AngleLimit → Type 0) → AngleLimitOption → Type 0
-IfLimited P Unlimited = Unit
-IfLimited P (Limited l) = P l
-
 -- P of each angle limit of a joint: a hinge's, and a ball's two
 abbrev pub EachAngleLimit : (AngleLimit → Type 0) → Joint → Type 0
 EachAngleLimit P (Fixed j) = Unit
-EachAngleLimit P (Revolute j) = IfLimited P j.angle_limit
+EachAngleLimit P (Revolute j) = IfSome j.angle_limit P
 EachAngleLimit P (Prismatic j) = Unit
-EachAngleLimit P (Spherical j) = IfLimited P j.swing_limit × IfLimited P j.twist_limit
+EachAngleLimit P (Spherical j) = IfSome j.swing_limit P × IfSome j.twist_limit P
 EachAngleLimit P (Distance j) = Unit

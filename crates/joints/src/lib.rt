@@ -46,13 +46,7 @@ pub struct DistanceLimit {
     pub max: f32,
 }
 
-#[derive(Clone, Copy)]
-pub enum DistanceLimitOption {
-    Unlimited,
-    Limited(DistanceLimit),
-}
-
-// Where nothing is to be corrected, both are zero.
+// An answer of the limit's own, as document 01 has it, in place of an `Option`: where nothing is to be corrected, both are zero.
 #[derive(Clone, Copy)]
 pub struct DistanceCorrection {
     pub direction: Vec3,
@@ -69,6 +63,7 @@ impl DistanceCorrection {
 impl DistanceLimit {
     pub const ZERO: DistanceLimit = DistanceLimit { min: 0.0, max: 0.0 };
 
+    #[tactic(auto, unfolding(crate::specs::Limit::distance_correction, vector::specs::Vector::length_of))]
     pub fn compute_correction(self, separation: Vec3) -> DistanceCorrection
         ensures { result ≡ distance_correction self separation }
     {
@@ -78,31 +73,32 @@ impl DistanceLimit {
         }
         let distance = sqrt(distance_squared);
         if distance < self.min {
-            return DistanceCorrection {
-                direction: separation.div(distance),
+            DistanceCorrection {
+                direction: separation / distance,
                 magnitude: self.min - distance,
-            };
-        }
-        if distance > self.max {
-            return DistanceCorrection {
-                direction: separation.neg().div(distance),
+            }
+        } else if distance > self.max {
+            DistanceCorrection {
+                direction: -separation / distance,
                 magnitude: distance - self.max,
-            };
+            }
+        } else {
+            DistanceCorrection::NONE
         }
-        DistanceCorrection::NONE
     }
 
+    #[tactic(auto, unfolding(crate::specs::Limit::axis_correction))]
     pub fn compute_correction_along_axis(self, separation: Vec3, axis: Vec3) -> Vec3
         ensures { result ≡ axis_correction self separation axis }
     {
         let a = separation.dot(axis);
         if a < self.min {
-            return axis.scale(self.min - a);
+            axis * (self.min - a)
+        } else if a > self.max {
+            -axis * (a - self.max)
+        } else {
+            Vec3::ZERO
         }
-        if a > self.max {
-            return axis.neg().scale(a - self.max);
-        }
-        Vec3::ZERO
     }
 }
 
@@ -112,12 +108,7 @@ pub struct AngleLimit {
     pub max: f32,
 }
 
-#[derive(Clone, Copy)]
-pub enum AngleLimitOption {
-    Unlimited,
-    Limited(AngleLimit),
-}
-
+// An answer of the limit's own, as document 01 has it, in place of an `Option`.
 #[derive(Clone, Copy)]
 pub enum AngleCorrection {
     None,
@@ -125,18 +116,21 @@ pub enum AngleCorrection {
 }
 
 // An arc sine is right for an acute angle.
+#[tactic(auto, unfolding(crate::specs::Limit::obtuse))]
 fn obtuse(phi: f32, cosine: f32) -> f32
     ensures { result ≡ obtuse phi cosine }
 {
     if cosine < 0.0 { PI - phi } else { phi }
 }
 
+#[tactic(auto, unfolding(crate::specs::Limit::wrapped))]
 fn wrapped(phi: f32) -> f32
     ensures { result ≡ wrapped phi }
 {
     if phi > PI { phi - TAU } else { phi }
 }
 
+#[tactic(auto, unfolding(crate::specs::Limit::angle_about))]
 fn angle_about(limit_axis: Vec3, axis1: Vec3, axis2: Vec3) -> f32
     ensures { result ≡ angle_about limit_axis axis1 axis2 }
 {
@@ -145,6 +139,7 @@ fn angle_about(limit_axis: Vec3, axis1: Vec3, axis2: Vec3) -> f32
 }
 
 impl AngleLimit {
+    #[tactic(auto, unfolding(crate::specs::Limit::angle_correction))]
     pub fn compute_correction(
         self,
         limit_axis: Vec3,
@@ -159,9 +154,7 @@ impl AngleLimit {
         if phi < self.min || phi > self.max {
             let rot = Quat::from_angle_in_reach(limit_axis, clamp(phi, self.min, self.max));
             return AngleCorrection::Some(
-                rot.mul_vec3(axis1)
-                    .cross(axis2)
-                    .clamp_length_max(max_correction),
+                (rot * axis1).cross(axis2).clamp_length_max(max_correction),
             );
         }
         AngleCorrection::None

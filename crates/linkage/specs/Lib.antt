@@ -1,4 +1,2 @@
-pub mod Ascii
 pub mod Examples
 pub mod Lines
-pub mod Parts

@@ -1,47 +1,80 @@
-// Ticks whose lines fill a buffer, so that one write takes many.
-ghost use Rattle.std.specs.Prelude.{◌≡◌, ◌++◌, ◌-◌, ◌*◌, ◌≤◌, ◌<◌, length, take};
-ghost use Rattle.state.specs.State.{body_numbers};
-ghost use Rattle.linkage.specs.Lines.{output_of};
+// A card that runs: ticks whose lines fill a buffer, so that one write takes many.
+ghost use Rattle.std.specs.Prelude.{◌≡◌, ◌++◌, ◌+◌, ◌-◌, ◌*◌, ◌≤◌, ◌<◌, length};
+ghost use Rattle.arrayvec.specs.ArrayVec.{array_vec_len, Extends};
+ghost use Rattle.card.specs.Answer.{number_of};
+ghost use Rattle.state.specs.State.{body_numbers, answered};
+ghost use Rattle.tick.specs.Run.{tick_of};
+ghost use Rattle.linkage.specs.Lines.{lines_of, output_of};
 
-use crate::lines::{put_lines, put_refusal};
+use crate::lines::{Lines, put_line, put_refusal};
+use card::refusal::Refusal;
+use state::places::BODY_NUMBERS;
+use std::io;
 use tick::run::tick;
-
-// How many bytes of the buffer were filled, and how many ticks are done: all of them, where one was refused.
-#[derive(Clone, Copy)]
-pub struct Filled {
-    pub bytes: usize,
-    pub done: u64,
-}
 
 // No tick begins in a buffer that has so many bytes. A tick's lines are at most 255 of 73 bytes, so that all of them fit.
 const FULL: usize = 40000;
 
-// What is still to be written at the start is what the buffer has at the end, and what is still to be written then.
-pub fn fill(
-    card: &[u8],
-    state: &mut [f32],
-    bodies: usize,
-    from: u64,
-    ticks: u64,
-    out: &mut [u8],
-) -> Filled
-    requires { (bodies ≤ 255) × (body_numbers * bodies ≤ length state.old) × (from < ticks) × (ticks ≤ 65535) × (length out.old ≡ 65536) }
-    ensures state_value { output_of card.now bodies from (ticks - from) state.old ≡ take result.bytes out.new ++ output_of card.now bodies result.done (ticks - result.done) state.new }
-    ensures bytes_bound { (result.bytes ≤ 65536) × (from < result.done) × (result.done ≤ ticks) }
-{
-    let mut at = 0;
-    let mut done = from;
-    while done < ticks && at < FULL {
-        let answer = tick(card, state);
-        let number = answer.number();
-        if number != 0 {
-            return Filled {
-                bytes: put_refusal(out, at, number),
-                done: ticks,
-            };
-        }
-        done += 1;
-        at = put_lines(out, at, done, bodies, state);
+// A card that runs, and the state that it is in.
+#[derive(Drop)]
+pub struct Table<'c, 's> {
+    pub card: &'c [u8],
+    pub state: &'s mut [f32],
+    pub bodies: usize,
+    pub ghost sized: { (bodies ≤ 255) × (body_numbers * bodies ≤ length state.now) },
+}
+
+impl<'c, 's> Table<'c, 's> {
+    // A loop that writes through `state` itself knows no more of it than its length.
+    fn tick(&mut self) -> Result<(), Refusal>
+        ensures value { answered (number_of result) self.new.state.now ≡ tick_of self.old.card.now self.old.state.now }
+        ensures kept { (self.new.card ≡ self.old.card) × (self.new.bodies ≡ self.old.bodies) }
+    {
+        tick(self.card, self.state)
     }
-    Filled { bytes: at, done }
+
+    // The lines of a tick, one for each body.
+    fn put_lines(&self, tick: u16, out: &mut Lines)
+        requires { array_vec_len out.old + 73 * self.now.bodies ≤ 65536 }
+        ensures bytes { Extends out.old (lines_of tick self.now.bodies self.now.state.now) out.new }
+        ensures len { array_vec_len out.new ≤ array_vec_len out.old + 73 * self.now.bodies }
+    {
+        for i in 0..self.bodies {
+            let pose = BODY_NUMBERS * i;
+            put_line(out, tick, i as u64, &self.state[pose..pose + 7]);
+        }
+    }
+
+    // How many ticks are done: all of them, where one was refused. What is still to be written at the start is what the buffer has at the end, and what is
+    // still to be written then.
+    pub fn fill(&mut self, from: u16, ticks: u16, out: &mut Lines) -> u16
+        requires { from < ticks }
+        ensures state_value { output_of self.old.card.now self.old.bodies from (ticks - from) self.old.state.now ≡ out.new.items ++ output_of self.new.card.now self.new.bodies result (ticks - result) self.new.state.now }
+        ensures kept { (self.new.card ≡ self.old.card) × (self.new.bodies ≡ self.old.bodies) }
+        ensures done_bound { (from < result) × (result ≤ ticks) }
+    {
+        out.clear();
+        for done in from..ticks {
+            if out.len() >= FULL {
+                return done;
+            }
+            if let Err(refusal) = self.tick() {
+                put_refusal(out, refusal);
+                return ticks;
+            }
+            self.put_lines(done + 1, out);
+        }
+        ticks
+    }
+
+    // Ticks up to the first that is refused. What can't be written ends the program.
+    pub fn run(&mut self, rt: &impl Print, ticks: u16) -> io::Result<()> {
+        let mut out = Lines::new();
+        let mut done = 0;
+        while done < ticks {
+            done = self.fill(done, ticks, &mut out);
+            rt.write_all(out.as_slice())?;
+        }
+        Ok(())
+    }
 }

@@ -4,94 +4,54 @@
 mod fill;
 mod lines;
 
-ghost use Rattle.std.specs.Prelude.{◌≡◌, ◌*◌, ◌≤◌, length};
+ghost use Rattle.std.specs.Prelude.{◌*◌, ◌≤◌, IfOk};
 ghost use Rattle.state.specs.State.{body_numbers};
-ghost use Rattle.linkage.specs.Lines.{ticks_of};
 
-use crate::fill::fill;
-use crate::lines::put_refusal;
+use crate::fill::Table;
+use card::refusal::Refusal;
 use input::read_full;
-use state::sizes::sizes;
+use state::sizes::{CardSizes, sizes};
 use state::start::start;
 use std::io;
 
 // The state of 255 bodies and 255 joints: no card has more of either.
 const LARGEST: usize = 6375;
 
-// The bytes that are read at most, and those that one write takes at most.
-const LARGE: usize = 65536;
-
-fn print_refusal(rt: &impl Print, number: u8) -> io::Result<()> {
-    let mut line = [0; 12];
-    let n = put_refusal(&mut line, 0, number);
-    rt.write_all(&line[..n])
+// Leaves the start state in so many of the room's first numbers.
+fn started(card: &[u8], room: &mut [f32; LARGEST]) -> Result<CardSizes, Refusal>
+    ensures { IfOk result (λ s. (s.bodies ≤ 255) × (body_numbers * s.bodies ≤ s.state) × (s.state ≤ 6375)) }
+{
+    let sizes = sizes(card)?;
+    start(card, &mut room[..sizes.state])?;
+    Ok(sizes)
 }
 
-// Ticks up to the first that is refused. What can't be written ends the program.
-fn run(rt: &impl Print, card: &[u8], state: &mut [f32], bodies: usize, ticks: u64) -> io::Result<()>
-    requires { (bodies ≤ 255) × (body_numbers * bodies ≤ length state.old) × (ticks ≤ 65535) }
-{
-    let mut out = [0; LARGE];
-    let mut done = 0;
-    while done < ticks {
-        let filled = fill(card, state, bodies, done, ticks, &mut out);
-        let n = filled.bytes;
-        rt.write_all(&out[..n])?;
-        done = filled.done;
-    }
-    Ok(())
-}
-
-// From the start state of the card.
-fn start_and_run(
-    rt: &impl Print,
-    card: &[u8],
-    state: &mut [f32],
-    bodies: usize,
-    ticks: u64,
-) -> io::Result<()>
-    requires { (bodies ≤ 255) × (body_numbers * bodies ≤ length state.old) × (ticks ≤ 65535) }
-{
-    let answer = start(card, state);
-    let number = answer.number();
-    if number != 0 {
-        return print_refusal(rt, number);
-    }
-    run(rt, card, state, bodies, ticks)
-}
-
-fn run_card(rt: &impl Print, card: &[u8], ticks: u64) -> io::Result<()>
-    requires { ticks ≤ 65535 }
-{
-    let size = sizes(card);
-    let answer = size.answer;
-    let number = answer.number();
-    if number != 0 {
-        return print_refusal(rt, number);
-    }
+fn run_card(rt: &impl Print, card: &[u8], ticks: u16) -> io::Result<()> {
     let mut room = [0.0; LARGEST];
-    let numbers = size.state;
-    start_and_run(rt, card, &mut room[..numbers], size.bodies, ticks)
-}
-
-fn ticks_of(high: u8, low: u8) -> u64
-    ensures { (result ≡ ticks_of high low) × (result ≤ 65535) }
-{
-    (high as u64) * 256 + (low as u64)
-}
-
-// Two bytes for the count, and the card.
-fn run_input(rt: &impl Print, input: &[u8]) -> io::Result<()> {
-    if input.len() < 2 {
-        return print_refusal(rt, 1);
+    match started(card, &mut room) {
+        Ok(sizes) => {
+            let mut table = Table {
+                card,
+                state: &mut room[..sizes.state],
+                bodies: sizes.bodies,
+            };
+            table.run(rt, ticks)
+        }
+        Err(refusal) => println!(rt; "{refusal}"),
     }
-    let ticks = ticks_of(input[0], input[1]);
-    run_card(rt, &input[2..], ticks)
+}
+
+// Two bytes for the count, the high one first, and the card.
+fn run_input(rt: &impl Print, input: &[u8]) -> io::Result<()> {
+    let Some((ticks, card)) = input.split_first_chunk() else {
+        return println!(rt; "{}", Refusal::ShortCard);
+    };
+    run_card(rt, card, u16::from_be_bytes(*ticks))
 }
 
 fn main(rt: HostRuntime) -> io::Result<()> {
     // More than any card has: what is left unread could only be refused for its length.
-    let mut input = [0; LARGE];
+    let mut input = [0; 65536];
     let n = read_full(&mut rt.reader(), &mut input)?;
     run_input(&rt, &input[..n])
 }

@@ -9,36 +9,34 @@ use lib.IntN.{pos}
 use lib.Ieee.{Float, binary32, in_float, of_int}
 use borrow.Author.Tests.{le-leb}
 use Rattle.scalar.specs.Arith.{◌⊘◌, f1}
+use Rattle.card.specs.declared.edition.Edition as named
 use Rattle.card.specs.declared.records.HeaderBits.{HeaderBits}
 use Rattle.card.specs.Format.{bits_at, Cell, width_of, numbers_at, records_at}
-use Rattle.card.specs.Card.{at, body, kind_of, edition_of, card_of}
+use Rattle.card.specs.Card.{at, body, kind_of, card_of}
 use Rattle.card.specs.Accepted.{Narrow}
 use Rattle.card.specs.Checks.{check_of}
-use Rattle.card.specs.Parts.{Listed, sizes_of, card_with, header_bits, float_at}
+use Rattle.card.specs.Parts.{edition_number, sizes_of, card_with, header_bits, float_at}
 use Rattle.card.proofs.Cut.{records_length, record_at}
-use Rattle.card.proofs.Editions.{header_floats, joint_width, header_width, header_bytes_lem, fastest_4000, card_is}
+use Rattle.card.proofs.Editions.{cells, header_floats, joint_width, header_width, header_bytes_lem, fastest_4000, card_is}
 use Rattle.card.proofs.Accepted.{accepted, at_most_200}
 use Rattle.loader.specs.declared.header.Header.{Header}
 use Rattle.loader.specs.Parts.{header_of}
 
 -- the card begins with edition n
-module _ (card : List ℕ) (z : check_of card ≡ 0) {n : ℕ} (en : n ≡ bits_at card 0 8) where
-  pub known : Listed n
-  known = rw en (accepted card z).edition
-
+module _ (card : List ℕ) (z : check_of card ≡ 0) (n : named.Edition) (en : edition_number n ≡ bits_at card 0 8) where
   abbrev numbers : List ℕ
-  numbers = numbers_at (edition_of n).header card 0
+  numbers = numbers_at (cells n).header card 0
 
   abbrev cs : List Cell
-  cs = (edition_of n).joint
+  cs = (cells n).joint
 
-  is : card_of card ≡ card_with (edition_of n) card (at 1 numbers) (at 2 numbers)
+  is : card_of card ≡ card_with (cells n) card (at 1 numbers) (at 2 numbers)
   is = rw en (card_is card)
 
   rate_small : at 3 numbers ≤ 4000
   rate_small =
-      let most : at 3 numbers ≤ (edition_of n).fastest = rw (is, ← en) at (accepted card z).has.most_rate in
-      omega (arith, most, fastest_4000 n known)
+      let most : at 3 numbers ≤ (cells n).fastest = rw (is, ← en) at (accepted card z).has.most_rate in
+      omega (arith, most, fastest_4000 n)
 
   pub rate_fits : {b : HeaderBits} → b ≡ header_bits numbers → T (in_float binary32 (pos b.rate))
   unfolding header_bits in_float
@@ -46,24 +44,24 @@ module _ (card : List ℕ) (z : check_of card ≡ 0) {n : ℕ} (en : n ≡ bits_
 
   -- its header has `bytes` bytes
   module _ {bytes : ℕ} (eb : bytes ≡ (sizes_of n).header_bytes) where
-    place : 8 * bytes ≡ width_of (edition_of n).header
-    place = ap (λ b. 8 * b) eb ∙ header_width n known
+    place : 8 * bytes ≡ width_of (cells n).header
+    place = ap (λ b. 8 * b) eb ∙ header_width n
 
     pub enough : bytes + 94 * at 1 numbers + 123 * at 2 numbers ≤ length card
     enough =
-        let long : width_of (edition_of n).header + 752 * at 1 numbers + 984 * at 2 numbers ≤ 8 * length card = rw (is, ← en, joint_width n known) at (accepted card z).enough in
+        let long : width_of (cells n).header + 752 * at 1 numbers + 984 * at 2 numbers ≤ 8 * length card = rw (is, ← en, joint_width n) at (accepted card z).enough in
         omega (arith, long, place)
 
     -- room for its floats
     pub header_room : (12 ≤ bytes) × (bytes ≤ length card)
-    header_room = (rw eb (header_bytes_lem n known).0, omega (arith, enough))
+    header_room = (rw eb (header_bytes_lem n).0, omega (arith, enough))
 
     pub header_read : {b : HeaderBits} {gravity warm : Float} → b ≡ header_bits numbers → gravity ≡ float_at card (bytes - 8) → warm ≡ float_at card (bytes - 4)
         → ◌≡◌ {A = Header}
         (record { bodies = b.bodies; joints = b.joints; dt = f1 ⊘ of_int binary32 (pos b.rate); gravity = gravity; warm_coefficient = warm })
         (header_of (card_of card))
     unfolding header_of header_bits
-    header_read e g w = rw (is, e, g, w, eb, (header_floats n known card).0, (header_floats n known card).1) refl
+    header_read e g w = rw (is, e, g, w, eb, (header_floats n card).0, (header_floats n card).1) refl
 
     -- ---- by the counts of its header
 
@@ -80,7 +78,7 @@ module _ (card : List ℕ) (z : check_of card ≡ 0) {n : ℕ} (en : n ≡ bits_
 
       pub joints_are : (card_of card).joints ≡ records_at cs card (8 * (bytes + 94 * h.bodies)) h.joints
       joints_are =
-          let behind : 8 * (bytes + 94 * at 1 numbers) ≡ width_of (edition_of n).header + 752 * at 1 numbers = omega (arith, place) in
+          let behind : 8 * (bytes + 94 * at 1 numbers) ≡ width_of (cells n).header + 752 * at 1 numbers = omega (arith, place) in
           rw (count.0, count.1, behind, is) refl
 
       -- a joint has a kind, ties bodies of the card, and has angle limits within reach

@@ -1,3 +1,4 @@
 pub mod Linkage
+pub mod Linked
 pub mod Parts
 pub mod Reach

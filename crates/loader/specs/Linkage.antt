@@ -1,14 +1,12 @@
 -- A card as the solver has it: document 01, 'The card', decoded. A record is read by its words, the numbers before its floats, and by its floats.
-use Rattle.std.specs.Prelude.{ℕ, ◌+◌, Bool, List, [], ◌∷◌, ◌++◌, map, get_or, take, drop, eqb, pos, Float, if◌then◌else◌}
+use Rattle.std.specs.Prelude.{ℕ, ◌+◌, Bool, Option, None, Some, List, [], ◌∷◌, ◌++◌, map, get_or, take, drop, eqb, pos, Float, if◌then◌else◌}
 use Rattle.std.specs.Float.{binary32}
 use Rattle.std.specs.Float.Ieee.{of_int}
 use Rattle.scalar.specs.Arith.{◌⊘◌, f32, f1}
 use Rattle.vector.specs.declared.SymmetricTensor.{SymmetricTensor}
 use Rattle.joints.specs.declared.JointFrame.{JointFrame}
-use Rattle.joints.specs.declared.AngleLimitOption.{AngleLimitOption}
-use Rattle.joints.specs.declared.AngleLimitOption.TheVariants as angle
-use Rattle.joints.specs.declared.DistanceLimitOption.{DistanceLimitOption}
-use Rattle.joints.specs.declared.DistanceLimitOption.TheVariants as distance
+use Rattle.joints.specs.declared.AngleLimit.{AngleLimit}
+use Rattle.joints.specs.declared.DistanceLimit.{DistanceLimit}
 use Rattle.joints.specs.declared.motor.MotorModel.{MotorModel}
 use Rattle.joints.specs.declared.motor.MotorModel.TheVariants.{SpringDamper, AccelerationBased, ForceBased}
 use Rattle.joints.specs.declared.motor.AngularMotor.{AngularMotor}
@@ -26,11 +24,7 @@ use Rattle.solver_body.specs.declared.SolverBodyInertia.{SolverBodyInertia}
 use Rattle.numbers.specs.Numbers.{number_in, vec3_in, quat_in}
 use Rattle.card.specs.Card.{at, flag, motored, Card, float, vec3, quat}
 use Rattle.loader.specs.declared.body.LinkBody.{LinkBody}
-
-pub record LinkJoint : Type 0 where
-  pub body1 : ℕ
-  pub body2 : ℕ
-  pub joint : Joint
+use Rattle.loader.specs.declared.joint.LinkJoint.{LinkJoint}
 
 pub record Linkage : Type 0 where
   pub dt : Float
@@ -68,11 +62,11 @@ module _ (floats : List Float) where
   frame_in anchor basis = record { anchor = vec3_in floats anchor; basis = quat_in floats basis }
 
   -- the limit at place k, where there is one
-  abbrev pub angle_limit_in : Bool → ℕ → AngleLimitOption
-  angle_limit_in limited k = if limited then angle.Limited (record { min = number_in floats k; max = number_in floats (k + 1) }) else angle.Unlimited
+  abbrev pub angle_limit_in : Bool → ℕ → Option AngleLimit
+  angle_limit_in limited k = if limited then Some (record { min = number_in floats k; max = number_in floats (k + 1) }) else None
 
-  abbrev pub distance_limit_in : Bool → ℕ → DistanceLimitOption
-  distance_limit_in limited k = if limited then distance.Limited (record { min = number_in floats k; max = number_in floats (k + 1) }) else distance.Unlimited
+  abbrev pub distance_limit_in : Bool → ℕ → Option DistanceLimit
+  distance_limit_in limited k = if limited then Some (record { min = number_in floats k; max = number_in floats (k + 1) }) else None
 
   -- compliances point, angle
   unfoldable pub fixed_in : FixedJoint

@@ -1,103 +1,87 @@
-// A body of the card, as the solver reads it. Words: anchored 0, locks 1 to 3. Floats: centre of mass 0, inverse mass 3, inverse inertia 4.
-ghost use Rattle.std.specs.Prelude.{◌≡◌, ◌<◌, length, Float, List};
-ghost use Rattle.loader.specs.Linkage.{tensor_in, moving_inertia_in, body_in};
-ghost use Rattle.loader.specs.Parts.{body_words, body_floats, words_length, turned_floats, body_at, Loaded};
+// A body of the card, as the solver reads it.
+ghost use Rattle.std.specs.Prelude.{◌≡◌, ◌≤◌, length, if◌then◌else◌};
+ghost use Rattle.vector.specs.Matrix.{turned_tensor};
+ghost use Rattle.card.specs.Format.{numbers_at};
+ghost use Rattle.card.specs.Card.{body};
+ghost use Rattle.loader.specs.Linkage.{moving_inertia_in, body_of};
+ghost use Rattle.loader.specs.Parts.{body_floats_of};
 
-use crate::header::Header;
-use numbers::vec3_in;
+use card::bits::{float_at, vec3_at};
+use card::layout::{CENTER_OF_MASS, INV_INERTIA, INV_MASS};
+use card::records::body_bits;
 use solver_body::SolverBodyInertia;
 use vector::{Quat, SymmetricTensor, Vec3};
 
 #[derive(Clone, Copy)]
 pub struct LinkBody {
+    // A flag and no `Option` of the inertia: document 01 gives an anchored body the dummy's.
     pub anchored: bool,
-    // The dummy's for an anchored body.
     pub inertia: SolverBodyInertia,
     pub center_of_mass: Vec3,
 }
 
-pub const BODY_WORDS: usize = 4;
+impl LinkBody {
+    // What a slice of bodies is made of before it is loaded.
+    pub const DUMMY: LinkBody = LinkBody {
+        anchored: true,
+        inertia: SolverBodyInertia::DUMMY,
+        center_of_mass: Vec3::ZERO,
+    };
 
-pub const BODY_FLOATS: usize = 10;
-
-fn tensor_in(floats: &[f32]) -> SymmetricTensor
-    requires { length floats.now ≡ body_floats }
-    ensures { result ≡ tensor_in floats.now }
-{
-    SymmetricTensor {
-        xx: floats[4],
-        xy: floats[5],
-        xz: floats[6],
-        yy: floats[7],
-        yz: floats[8],
-        zz: floats[9],
+    // With its inverse inertia turned; an anchored body's stays.
+    pub fn turned(self, rotation: Quat) -> LinkBody
+        ensures { result ≡ record self { inertia = if self.anchored then self.inertia else record self.inertia { inv_angular_inertia = turned_tensor rotation self.inertia.inv_angular_inertia } } }
+    {
+        if self.anchored {
+            return self;
+        }
+        let tensor = self.inertia.inv_angular_inertia.turned(rotation);
+        LinkBody {
+            inertia: SolverBodyInertia {
+                inv_angular_inertia: tensor,
+                ..self.inertia
+            },
+            ..self
+        }
     }
 }
 
-fn moving_inertia_in(words: &[u32], floats: &[f32]) -> SolverBodyInertia
-    requires { (length words.now ≡ body_words) × (length floats.now ≡ body_floats) }
-    ensures { result ≡ moving_inertia_in words.now floats.now }
+#[tactic(auto, unfolding(card::specs::Parts::body_bits, card::specs::Parts::float_at, card::specs::Format::numbers_at))]
+fn load_inertia(part: &[u8]) -> SolverBodyInertia
+    requires { 94 ≤ length part.now }
+    ensures { result ≡ moving_inertia_in (numbers_at body part.now 0) (body_floats_of (numbers_at body part.now 0)) }
 {
+    let b = body_bits(part);
     SolverBodyInertia {
-        inv_mass: floats[3],
-        inv_angular_inertia: tensor_in(floats),
-        translation_x_locked: words[1] == 1,
-        translation_y_locked: words[2] == 1,
-        translation_z_locked: words[3] == 1,
+        inv_mass: float_at(part, INV_MASS),
+        inv_angular_inertia: SymmetricTensor {
+            xx: float_at(part, INV_INERTIA),
+            xy: float_at(part, INV_INERTIA + 4),
+            xz: float_at(part, INV_INERTIA + 8),
+            yy: float_at(part, INV_INERTIA + 12),
+            yz: float_at(part, INV_INERTIA + 16),
+            zz: float_at(part, INV_INERTIA + 20),
+        },
+        translation_x_locked: b.lock_x == 1,
+        translation_y_locked: b.lock_y == 1,
+        translation_z_locked: b.lock_z == 1,
     }
 }
 
-fn inertia_in(words: &[u32], floats: &[f32]) -> SolverBodyInertia
-    requires { (length words.now ≡ body_words) × (length floats.now ≡ body_floats) }
-    ensures { result ≡ (body_in words.now floats.now).inertia }
+// From the body's own part of the card.
+#[tactic(auto, unfolding(crate::specs::Linkage::body_in, card::specs::Parts::body_bits, card::specs::Parts::vec3_at, card::specs::Parts::float_at, card::specs::Format::numbers_at))]
+pub fn load_body(part: &[u8]) -> LinkBody
+    requires { 94 ≤ length part.now }
+    ensures { result ≡ body_of (numbers_at body part.now 0) }
 {
-    if words[0] == 1 {
-        return SolverBodyInertia::DUMMY;
-    }
-    moving_inertia_in(words, floats)
-}
-
-fn body_in(words: &[u32], floats: &[f32]) -> LinkBody
-    requires { (length words.now ≡ body_words) × (length floats.now ≡ body_floats) }
-    ensures { result ≡ body_in words.now floats.now }
-{
+    let anchored = body_bits(part).anchored;
     LinkBody {
-        anchored: words[0] == 1,
-        inertia: inertia_in(words, floats),
-        center_of_mass: vec3_in(floats, 0),
+        anchored,
+        inertia: if anchored {
+            SolverBodyInertia::DUMMY
+        } else {
+            load_inertia(part)
+        },
+        center_of_mass: vec3_at(part, CENTER_OF_MASS),
     }
-}
-
-pub fn body_at(h: Header, words: &[u32], floats: &[f32], i: usize) -> LinkBody
-    requires { Loaded h words.now floats.now × (i < h.bodies) }
-    ensures { result ≡ body_at h words.now floats.now i }
-{
-    let w = BODY_WORDS * i;
-    let f = BODY_FLOATS * i;
-    body_in(&words[w..w + BODY_WORDS], &floats[f..f + BODY_FLOATS])
-}
-
-pub fn anchored_at(h: Header, words: &[u32], i: usize) -> bool
-    requires { (length words.now ≡ words_length h) × (i < h.bodies) }
-    ensures { (f : List Float) → result ≡ (body_at h words.now f i).anchored }
-{
-    words[BODY_WORDS * i] == 1
-}
-
-// A body's floats with its inverse inertia turned; an anchored body's is not read.
-pub fn turn_in(floats: &[f32], rotation: Quat, turned: &mut [f32])
-    requires { (length floats.now ≡ body_floats) × (length turned.old ≡ body_floats) }
-    ensures { turned.new ≡ turned_floats rotation floats.now }
-{
-    let tensor = tensor_in(floats).turned(rotation);
-    turned[0] = floats[0];
-    turned[1] = floats[1];
-    turned[2] = floats[2];
-    turned[3] = floats[3];
-    turned[4] = tensor.xx;
-    turned[5] = tensor.xy;
-    turned[6] = tensor.xz;
-    turned[7] = tensor.yy;
-    turned[8] = tensor.yz;
-    turned[9] = tensor.zz;
 }

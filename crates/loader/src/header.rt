@@ -1,11 +1,11 @@
 // What the header of a card says.
 ghost use Rattle.std.specs.Prelude.{◌≡◌};
 ghost use Rattle.card.specs.Card.{card_of};
-ghost use Rattle.card.specs.Checks.{check_of};
 ghost use Rattle.loader.specs.Parts.{header_of};
 
-use card::bits::{bits8_at, float_at};
-use card::edition::sizes_of;
+use card::accepted_card::Accepted;
+use card::bits::float_at;
+use card::edition::Edition;
 use card::layout::{GRAVITY, WARM_COEFFICIENT};
 use card::records::header_bits;
 
@@ -18,18 +18,17 @@ pub struct Header {
     pub warm_coefficient: f32,
 }
 
-pub fn header_of(card: &[u8]) -> Header
-    requires { check_of card.now ≡ 0 }
-    ensures { result ≡ header_of (card_of card.now) }
+pub fn header_of(card: Accepted) -> Header
+    ensures { result ≡ header_of (card_of card.entry.bytes.now) }
 {
-    let edition = bits8_at(card, 0);
-    let b = header_bits(card, edition);
-    let end = sizes_of(edition).header_bytes;
+    let edition = Edition::of(card);
+    let b = header_bits(card.bytes, edition);
+    let end = edition.sizes().header_bytes;
     Header {
         bodies: b.bodies,
         joints: b.joints,
         dt: 1.0 / b.rate as f32,
-        gravity: float_at(card, end - GRAVITY),
-        warm_coefficient: float_at(card, end - WARM_COEFFICIENT),
+        gravity: float_at(card.bytes, end - GRAVITY),
+        warm_coefficient: float_at(card.bytes, end - WARM_COEFFICIENT),
     }
 }

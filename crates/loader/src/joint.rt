@@ -1,234 +1,239 @@
-// A joint of the card, as the solver reads it. Words: kind 0, bodies 1 and 2, first and second limit 3 and 4, motor 5.
-// Floats: anchors 0 and 3, bases 6 and 10, axis 14, compliances 17 to 20, limits 21 and 23, motor 25 to 29.
-ghost use Rattle.std.specs.Prelude.{◌≡◌, ◌+◌, ◌≤◌, ◌<◌, length, Float, List};
-ghost use Rattle.card.specs.Card.{motored};
-ghost use Rattle.loader.specs.Linkage.{frame_in, angle_limit_in, distance_limit_in, model_in, angular_motor_in, linear_motor_in, fixed_in, revolute_in, prismatic_in, spherical_in, distance_in};
-ghost use Rattle.loader.specs.Parts.{joint_words, joint_floats, words_length, joint_part_words, card_joint_in, joint_at, Loaded};
+// A joint of the card, as the solver reads it.
+ghost use Rattle.std.specs.Prelude.{◌≡◌, ◌+◌, ◌≤◌, ◌<◌, length, ltb, List, ℕ, Some, None, if◌then◌else◌};
+ghost use Rattle.card.specs.Format.{numbers_at};
+ghost use Rattle.card.specs.Card.{at, edition_of};
+ghost use Rattle.card.specs.Parts.{edition_number, joint_bits, vec3_at, quat_at};
+ghost use Rattle.loader.specs.Linkage.{angle_limit_in, distance_limit_in, model_in, angular_motor_in, linear_motor_in, fixed_in, revolute_in, prismatic_in, spherical_in, distance_in, kind_in, joint_of};
+ghost use Rattle.loader.specs.Parts.{floats_from, joint_floats};
 
-use crate::body::{BODY_FLOATS, BODY_WORDS};
-use crate::header::Header;
+use card::bits::{float_at, quat_at, vec3_at};
+use card::edition::Edition;
+use card::layout::{ANCHOR1, AXIS, BASIS1, BASIS2, COMPLIANCES, LIMIT1, LIMIT2, MOTOR};
+use card::records::{JointBits, joint_bits};
 use joints::distance::DistanceJoint;
 use joints::fixed::FixedJoint;
 use joints::motor::{AngularMotor, LinearMotor, MotorModel};
 use joints::prismatic::PrismaticJoint;
 use joints::revolute::RevoluteJoint;
 use joints::spherical::SphericalJoint;
-use joints::{AngleLimit, AngleLimitOption, DistanceLimit, DistanceLimitOption, Joint, JointFrame};
-use numbers::{quat_in, vec3_in};
+use joints::{AngleLimit, DistanceLimit, Joint, JointFrame};
+use vector::Vec3;
 
 #[derive(Clone, Copy)]
-pub enum CardJoint {
-    Known(Joint),
-    // A kind number above 4, which no accepted card has.
-    Unknown,
+pub struct LinkJoint {
+    // Where its bodies stand among the linkage's.
+    pub body1: usize,
+    pub body2: usize,
+    pub joint: Joint,
 }
 
-pub const JOINT_WORDS: usize = 6;
+impl LinkJoint {
+    // What a slice of joints is made of before it is loaded.
+    pub const DUMMY: LinkJoint = LinkJoint {
+        body1: 0,
+        body2: 0,
+        joint: Joint::Distance(DistanceJoint {
+            anchor1: Vec3::ZERO,
+            anchor2: Vec3::ZERO,
+            limits: DistanceLimit::ZERO,
+            compliance: 0.0,
+        }),
+    };
+}
 
-pub const JOINT_FLOATS: usize = 30;
+const ANCHOR2: usize = ANCHOR1 + 12;
 
-fn frame_in(floats: &[f32], anchor: usize, basis: usize) -> JointFrame
-    requires { (anchor + 3 ≤ length floats.now) × (basis + 4 ≤ length floats.now) }
-    ensures { result ≡ frame_in floats.now anchor basis }
-{
-    JointFrame {
-        anchor: vec3_in(floats, anchor),
-        basis: quat_in(floats, basis),
+// A joint's own part of a card, and the numbers that it begins with.
+#[derive(Clone, Copy)]
+struct JointRecord<'a> {
+    bytes: &'a [u8],
+    // Clauses take any numbers with these bits: a ghost field that ties them to the bytes needs the edition too, and each clause would spell its record out.
+    bits: JointBits,
+    ghost whole: { 123 ≤ length bytes.now },
+}
+
+#[tactic(auto, unfolding(crate::specs::Linkage::model_in, crate::specs::Linkage::angular_motor_in, crate::specs::Linkage::linear_motor_in, crate::specs::Linkage::fixed_in, crate::specs::Linkage::revolute_in, crate::specs::Linkage::prismatic_in, crate::specs::Linkage::spherical_in, crate::specs::Linkage::distance_in, crate::specs::Linkage::kind_in, crate::specs::Parts::floats_from, numbers::specs::Lists::each, card::specs::Parts::joint_bits, card::specs::Parts::vec3_at, card::specs::Parts::quat_at))]
+impl<'a> JointRecord<'a> {
+    fn frame(&self, anchor: usize, basis: usize) -> JointFrame
+        requires { (anchor + 12 ≤ 123) × (basis + 16 ≤ 123) }
+        ensures { result ≡ record { anchor = vec3_at self.now.bytes.now anchor; basis = quat_at self.now.bytes.now basis } }
+    {
+        JointFrame {
+            anchor: vec3_at(self.bytes, anchor),
+            basis: quat_at(self.bytes, basis),
+        }
+    }
+
+    // The limit at a place of the record, where there is one. A distance's has a function of its own: one for both would need a trait that makes either of two floats.
+    fn angle_limit(&self, limited: bool, place: usize) -> Option<AngleLimit>
+        requires { place + 8 ≤ 123 }
+        ensures { result ≡ angle_limit_in (floats_from self.now.bytes.now place 2) limited 0 }
+    {
+        if limited {
+            return Some(AngleLimit {
+                min: float_at(self.bytes, place),
+                max: float_at(self.bytes, place + 4),
+            });
+        }
+        None
+    }
+
+    fn distance_limit(&self, limited: bool, place: usize) -> Option<DistanceLimit>
+        requires { place + 8 ≤ 123 }
+        ensures { result ≡ distance_limit_in (floats_from self.now.bytes.now place 2) limited 0 }
+    {
+        if limited {
+            return Some(DistanceLimit {
+                min: float_at(self.bytes, place),
+                max: float_at(self.bytes, place + 4),
+            });
+        }
+        None
+    }
+
+    fn motor_model(&self) -> MotorModel
+        ensures { (ns : List ℕ) → self.now.bits ≡ joint_bits ns → result ≡ model_in ns (joint_floats self.now.bytes.now) }
+    {
+        let first = float_at(self.bytes, MOTOR + 12);
+        let second = float_at(self.bytes, MOTOR + 16);
+        match self.bits.motor {
+            1 => MotorModel::SpringDamper {
+                frequency: first,
+                damping_ratio: second,
+            },
+            2 => MotorModel::AccelerationBased {
+                stiffness: first,
+                damping: second,
+            },
+            _ => MotorModel::ForceBased {
+                stiffness: first,
+                damping: second,
+            },
+        }
+    }
+
+    // A slide's motor has a function of its own: avian's two structs name their caps, and one for both would be no shorter.
+    fn angular_motor(&self) -> AngularMotor
+        ensures { (ns : List ℕ) → self.now.bits ≡ joint_bits ns → result ≡ angular_motor_in ns (joint_floats self.now.bytes.now) }
+    {
+        AngularMotor {
+            enabled: self.bits.motor != 0,
+            target_velocity: float_at(self.bytes, MOTOR),
+            target_position: float_at(self.bytes, MOTOR + 4),
+            max_torque: float_at(self.bytes, MOTOR + 8),
+            motor_model: self.motor_model(),
+        }
+    }
+
+    fn linear_motor(&self) -> LinearMotor
+        ensures { (ns : List ℕ) → self.now.bits ≡ joint_bits ns → result ≡ linear_motor_in ns (joint_floats self.now.bytes.now) }
+    {
+        LinearMotor {
+            enabled: self.bits.motor != 0,
+            target_velocity: float_at(self.bytes, MOTOR),
+            target_position: float_at(self.bytes, MOTOR + 4),
+            max_force: float_at(self.bytes, MOTOR + 8),
+            motor_model: self.motor_model(),
+        }
+    }
+
+    fn fixed(&self) -> FixedJoint
+        ensures { result ≡ fixed_in (joint_floats self.now.bytes.now) }
+    {
+        FixedJoint {
+            frame1: self.frame(ANCHOR1, BASIS1),
+            frame2: self.frame(ANCHOR2, BASIS2),
+            point_compliance: float_at(self.bytes, COMPLIANCES),
+            angle_compliance: float_at(self.bytes, COMPLIANCES + 4),
+        }
+    }
+
+    fn revolute(&self) -> RevoluteJoint
+        ensures { (ns : List ℕ) → self.now.bits ≡ joint_bits ns → result ≡ revolute_in ns (joint_floats self.now.bytes.now) }
+    {
+        RevoluteJoint {
+            frame1: self.frame(ANCHOR1, BASIS1),
+            frame2: self.frame(ANCHOR2, BASIS2),
+            hinge_axis: vec3_at(self.bytes, AXIS),
+            angle_limit: self.angle_limit(self.bits.first, LIMIT1),
+            point_compliance: float_at(self.bytes, COMPLIANCES),
+            align_compliance: float_at(self.bytes, COMPLIANCES + 4),
+            limit_compliance: float_at(self.bytes, COMPLIANCES + 8),
+            motor: self.angular_motor(),
+        }
+    }
+
+    fn prismatic(&self) -> PrismaticJoint
+        ensures { (ns : List ℕ) → self.now.bits ≡ joint_bits ns → result ≡ prismatic_in ns (joint_floats self.now.bytes.now) }
+    {
+        PrismaticJoint {
+            frame1: self.frame(ANCHOR1, BASIS1),
+            frame2: self.frame(ANCHOR2, BASIS2),
+            slider_axis: vec3_at(self.bytes, AXIS),
+            limits: self.distance_limit(self.bits.first, LIMIT1),
+            angle_compliance: float_at(self.bytes, COMPLIANCES),
+            align_compliance: float_at(self.bytes, COMPLIANCES + 4),
+            motor: self.linear_motor(),
+        }
+    }
+
+    fn spherical(&self) -> SphericalJoint
+        ensures { (ns : List ℕ) → self.now.bits ≡ joint_bits ns → result ≡ spherical_in ns (joint_floats self.now.bytes.now) }
+    {
+        SphericalJoint {
+            frame1: self.frame(ANCHOR1, BASIS1),
+            frame2: self.frame(ANCHOR2, BASIS2),
+            twist_axis: vec3_at(self.bytes, AXIS),
+            swing_limit: self.angle_limit(self.bits.first, LIMIT1),
+            twist_limit: self.angle_limit(self.bits.second, LIMIT2),
+            point_compliance: float_at(self.bytes, COMPLIANCES),
+            swing_compliance: float_at(self.bytes, COMPLIANCES + 4),
+            twist_compliance: float_at(self.bytes, COMPLIANCES + 8),
+        }
+    }
+
+    fn distance(&self) -> DistanceJoint
+        ensures { result ≡ distance_in (joint_floats self.now.bytes.now) }
+    {
+        DistanceJoint {
+            anchor1: vec3_at(self.bytes, ANCHOR1),
+            anchor2: vec3_at(self.bytes, ANCHOR2),
+            limits: DistanceLimit {
+                min: float_at(self.bytes, LIMIT1),
+                max: float_at(self.bytes, LIMIT1 + 4),
+            },
+            compliance: float_at(self.bytes, COMPLIANCES),
+        }
+    }
+
+    // By kind; a kind number above the last is refused.
+    fn by_kind(&self) -> Option<Joint>
+        ensures { (ns : List ℕ) → self.now.bits ≡ joint_bits ns → result ≡ (if ltb (at 0 ns) 5 then Some (kind_in ns (joint_floats self.now.bytes.now)) else None) }
+    {
+        match self.bits.kind {
+            0 => Some(Joint::Fixed(self.fixed())),
+            1 => Some(Joint::Revolute(self.revolute())),
+            2 => Some(Joint::Prismatic(self.prismatic())),
+            3 => Some(Joint::Spherical(self.spherical())),
+            4 => Some(Joint::Distance(self.distance())),
+            5.. => None,
+        }
     }
 }
 
-fn angle_limit_in(floats: &[f32], limited: bool, at: usize) -> AngleLimitOption
-    requires { at + 2 ≤ length floats.now }
-    ensures { result ≡ angle_limit_in floats.now limited at }
+// From the joint's own part of a card, which has no kind number above the last.
+pub fn load_joint(part: &[u8], edition: Edition) -> LinkJoint
+    requires { (123 ≤ length part.now) × (at 0 (numbers_at (edition_of (edition_number edition)).joint part.now 0) < 5) }
+    ensures { result ≡ joint_of (numbers_at (edition_of (edition_number edition)).joint part.now 0) }
 {
-    if limited {
-        return AngleLimitOption::Limited(AngleLimit {
-            min: floats[at],
-            max: floats[at + 1],
-        });
+    let b = joint_bits(part, edition);
+    let record = JointRecord {
+        bytes: part,
+        bits: b,
+    };
+    LinkJoint {
+        body1: b.body1,
+        body2: b.body2,
+        joint: record.by_kind().unwrap(),
     }
-    AngleLimitOption::Unlimited
-}
-
-fn distance_limit_in(floats: &[f32], limited: bool, at: usize) -> DistanceLimitOption
-    requires { at + 2 ≤ length floats.now }
-    ensures { result ≡ distance_limit_in floats.now limited at }
-{
-    if limited {
-        return DistanceLimitOption::Limited(DistanceLimit {
-            min: floats[at],
-            max: floats[at + 1],
-        });
-    }
-    DistanceLimitOption::Unlimited
-}
-
-fn model_in(words: &[u32], floats: &[f32]) -> MotorModel
-    requires { (length words.now ≡ joint_words) × (length floats.now ≡ joint_floats) }
-    ensures { result ≡ model_in words.now floats.now }
-{
-    let motor = words[5];
-    if motor == 1 {
-        return MotorModel::SpringDamper {
-            frequency: floats[28],
-            damping_ratio: floats[29],
-        };
-    }
-    if motor == 2 {
-        return MotorModel::AccelerationBased {
-            stiffness: floats[28],
-            damping: floats[29],
-        };
-    }
-    MotorModel::ForceBased {
-        stiffness: floats[28],
-        damping: floats[29],
-    }
-}
-
-fn angular_motor_in(words: &[u32], floats: &[f32]) -> AngularMotor
-    requires { (length words.now ≡ joint_words) × (length floats.now ≡ joint_floats) }
-    ensures { result ≡ angular_motor_in words.now floats.now }
-{
-    AngularMotor {
-        enabled: words[5] != 0,
-        target_velocity: floats[25],
-        target_position: floats[26],
-        max_torque: floats[27],
-        motor_model: model_in(words, floats),
-    }
-}
-
-fn linear_motor_in(words: &[u32], floats: &[f32]) -> LinearMotor
-    requires { (length words.now ≡ joint_words) × (length floats.now ≡ joint_floats) }
-    ensures { result ≡ linear_motor_in words.now floats.now }
-{
-    LinearMotor {
-        enabled: words[5] != 0,
-        target_velocity: floats[25],
-        target_position: floats[26],
-        max_force: floats[27],
-        motor_model: model_in(words, floats),
-    }
-}
-
-fn fixed_in(floats: &[f32]) -> FixedJoint
-    requires { length floats.now ≡ joint_floats }
-    ensures { result ≡ fixed_in floats.now }
-{
-    FixedJoint {
-        frame1: frame_in(floats, 0, 6),
-        frame2: frame_in(floats, 3, 10),
-        point_compliance: floats[17],
-        angle_compliance: floats[18],
-    }
-}
-
-fn revolute_in(words: &[u32], floats: &[f32]) -> RevoluteJoint
-    requires { (length words.now ≡ joint_words) × (length floats.now ≡ joint_floats) }
-    ensures { result ≡ revolute_in words.now floats.now }
-{
-    RevoluteJoint {
-        frame1: frame_in(floats, 0, 6),
-        frame2: frame_in(floats, 3, 10),
-        hinge_axis: vec3_in(floats, 14),
-        angle_limit: angle_limit_in(floats, words[3] == 1, 21),
-        point_compliance: floats[17],
-        align_compliance: floats[18],
-        limit_compliance: floats[19],
-        motor: angular_motor_in(words, floats),
-    }
-}
-
-fn prismatic_in(words: &[u32], floats: &[f32]) -> PrismaticJoint
-    requires { (length words.now ≡ joint_words) × (length floats.now ≡ joint_floats) }
-    ensures { result ≡ prismatic_in words.now floats.now }
-{
-    PrismaticJoint {
-        frame1: frame_in(floats, 0, 6),
-        frame2: frame_in(floats, 3, 10),
-        slider_axis: vec3_in(floats, 14),
-        limits: distance_limit_in(floats, words[3] == 1, 21),
-        angle_compliance: floats[17],
-        align_compliance: floats[18],
-        motor: linear_motor_in(words, floats),
-    }
-}
-
-fn spherical_in(words: &[u32], floats: &[f32]) -> SphericalJoint
-    requires { (length words.now ≡ joint_words) × (length floats.now ≡ joint_floats) }
-    ensures { result ≡ spherical_in words.now floats.now }
-{
-    SphericalJoint {
-        frame1: frame_in(floats, 0, 6),
-        frame2: frame_in(floats, 3, 10),
-        twist_axis: vec3_in(floats, 14),
-        swing_limit: angle_limit_in(floats, words[3] == 1, 21),
-        twist_limit: angle_limit_in(floats, words[4] == 1, 23),
-        point_compliance: floats[17],
-        swing_compliance: floats[18],
-        twist_compliance: floats[19],
-    }
-}
-
-fn distance_in(floats: &[f32]) -> DistanceJoint
-    requires { length floats.now ≡ joint_floats }
-    ensures { result ≡ distance_in floats.now }
-{
-    DistanceJoint {
-        anchor1: vec3_in(floats, 0),
-        anchor2: vec3_in(floats, 3),
-        limits: DistanceLimit {
-            min: floats[21],
-            max: floats[22],
-        },
-        compliance: floats[17],
-    }
-}
-
-// By kind; a kind number above the last is refused.
-fn joint_in(words: &[u32], floats: &[f32]) -> CardJoint
-    requires { (length words.now ≡ joint_words) × (length floats.now ≡ joint_floats) }
-    ensures { result ≡ card_joint_in words.now floats.now }
-{
-    let kind = words[0];
-    match kind {
-        0 => CardJoint::Known(Joint::Fixed(fixed_in(floats))),
-        1 => CardJoint::Known(Joint::Revolute(revolute_in(words, floats))),
-        2 => CardJoint::Known(Joint::Prismatic(prismatic_in(words, floats))),
-        3 => CardJoint::Known(Joint::Spherical(spherical_in(words, floats))),
-        4 => CardJoint::Known(Joint::Distance(distance_in(floats))),
-        5.. => CardJoint::Unknown,
-    }
-}
-
-pub fn joint_at(h: Header, words: &[u32], floats: &[f32], j: usize) -> CardJoint
-    requires { Loaded h words.now floats.now × (j < h.joints) }
-    ensures { result ≡ CardJoint.Known (joint_at h words.now floats.now j).joint }
-{
-    let w = BODY_WORDS * h.bodies + JOINT_WORDS * j;
-    let f = BODY_FLOATS * h.bodies + JOINT_FLOATS * j;
-    joint_in(&words[w..w + JOINT_WORDS], &floats[f..f + JOINT_FLOATS])
-}
-
-pub fn first_body(h: Header, words: &[u32], j: usize) -> usize
-    requires { (length words.now ≡ words_length h) × (j < h.joints) }
-    ensures { (f : List Float) → result ≡ (joint_at h words.now f j).body1 }
-{
-    words[BODY_WORDS * h.bodies + JOINT_WORDS * j + 1] as usize
-}
-
-pub fn second_body(h: Header, words: &[u32], j: usize) -> usize
-    requires { (length words.now ≡ words_length h) × (j < h.joints) }
-    ensures { (f : List Float) → result ≡ (joint_at h words.now f j).body2 }
-{
-    words[BODY_WORDS * h.bodies + JOINT_WORDS * j + 2] as usize
-}
-
-// A joint without a motor isn't read by the warm start.
-pub fn has_motor(h: Header, words: &[u32], j: usize) -> bool
-    requires { (length words.now ≡ words_length h) × (j < h.joints) }
-    ensures { result ≡ motored (joint_part_words h words.now j) }
-{
-    words[BODY_WORDS * h.bodies + JOINT_WORDS * j + 5] != 0
 }

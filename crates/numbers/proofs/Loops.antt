@@ -1,4 +1,4 @@
--- Laws of the loops: the first turn, one turn more, a loop that is left early, and a list that is copied.
+-- Laws of the loops: the first turn, one turn more, and a loop that is left early.
 use Prim.Native.Nat.{ℕ, zero, suc, ◌+◌, ◌≤◌, ◌<◌}
 use native.Mathlib.Nat.{eq-or-lt_of_le, le_of_suc-le-suc}
 use native.Mathlib.Numerals.{add-one}
@@ -6,9 +6,6 @@ use native.Mathlib.Omega.{arith}
 use native.Mathlib.Decide.{le_ind}
 use mathlib.Core.Path.{◌≡◌, refl, sym, ap, ◌∙◌, subst}
 use mathlib.Core.Logic.{inl, inr}
-use mathlib.Core.List.{List, [], ◌∷◌, ◌++◌}
-use lib.ListN.{length, get_or, set, take}
-use lib.Seq.{take-suc-set, take_all, set-get_or}
 use Rattle.numbers.specs.Lists.{after}
 
 module _ {S : Type 0} (f : ℕ → S → S) (s : S) where
@@ -53,20 +50,3 @@ pub after_same : {S : Type 0} (f g : ℕ → S → S) (s : S) (n : ℕ) → ((i 
 unfolding after
 after_same f g s zero e = refl
 after_same f g s (suc n) e = ap (f n) (after_same f g s n (λ i t h. e i t (omega arith))) ∙ e n (after g s n) (omega arith)
-
-module _ {A : Type 0} where
-  -- within a list, what is read is no default
-  pub get_d_in : (l : List A) (i : ℕ) (d e : A) → i < length l → get_or l i d ≡ get_or l i e
-  get_d_in [] i d e h = absurd (omega arith)
-  get_d_in (x ∷ l) zero d e h = refl
-  get_d_in (x ∷ l) (suc i) d e h = get_d_in l i d e (omega arith)
-
-  -- one place more
-  pub take_turn : (l m : List A) (i : ℕ) (a : A) → i < length l → i < length m → take i l ≡ take i m → take (i + 1) (set l i a) ≡ take (i + 1) (set m i a)
-  take_turn l m i a h k e = rw add-one (take-suc-set l i a h ∙ ap (λ t. t ++ (a ∷ [])) e ∙ sym (take-suc-set m i a k))
-
-  pub copy_more : (from to : List A) (n : ℕ) (d : A) → n < length from → n < length to → take n to ≡ take n from → take (n + 1) (set to n (get_or from n d)) ≡ take (n + 1) from
-  copy_more from to n d h k e = take_turn to from n (get_or from n d) k h e ∙ ap (λ l. take (n + 1) l) (set-get_or from n d)
-
-  pub copy_done : (from to : List A) (n : ℕ) → take n to ≡ take n from → length from ≤ n → length to ≤ n → to ≡ from
-  copy_done from to n e h k = sym (take_all n to k) ∙ e ∙ take_all n from h

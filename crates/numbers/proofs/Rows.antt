@@ -2,14 +2,13 @@
 use Prim.Native.Nat.{ℕ, zero, suc, ◌+◌, ◌*◌, ◌≤◌, ◌<◌}
 use native.Mathlib.Nat.{mul-zero, mul-suc, eq-or-lt_of_le, le_of_suc-le-suc, lt_of_not-le}
 use native.Mathlib.Decide.{dec_le, le_ind}
-use native.Mathlib.Numerals.{add-one}
 use native.Mathlib.Omega.{arith}
 use mathlib.Core.Path.{◌≡◌, refl, sym, ◌∙◌}
 use mathlib.Core.Logic.{◌⊎◌, inl, inr}
-use mathlib.Core.Bool.{Bool, ◌&&◌, and-true, and_assoc}
+use mathlib.Core.Bool.{Bool, ◌&&◌, and_assoc}
 use mathlib.Core.List.{List, [], ◌∷◌, ◌++◌, map, append-nil, append_assoc, map-append}
 use lib.ListN.{length, get_or, set, take, drop, length-append, length-set, get_or-append}
-use lib.Seq.{sets, get_or_at, get_or-set_same, get_or-set_other, ext_get_or, take-suc, take_at, take-add, drop-cons, drop-drop, drop-append-add}
+use lib.Seq.{sets, get_or_at, get_or-set_same, get_or-set_other, ext_get_or, take_at, take-add, drop-cons, drop-drop, drop-append-add}
 use lib.Ieee.{Float, nan}
 use Rattle.numbers.specs.Lists.{all, concat, each, after}
 use Rattle.numbers.specs.Numbers.{numbers3, numbers4, vec3_in, quat_in}
@@ -82,18 +81,13 @@ module _ {A : Type 0} (v : ℕ → A) where
     pub fill_each : (d : A) (n : ℕ) → length l ≡ n → after fill l n ≡ each v n
     fill_each d n e = sym (each_is v d (after fill l n) n (fill_length n ∙ e) (λ i h. sym (fill_at d i n h (omega (arith, e)))))
 
--- ---- lists that a loop goes through
+-- ---- a list that a fold goes through
 
 module _ {A : Type 0} (p : A → Bool) where
-  all_append : (l m : List A) → all p (l ++ m) ≡ (all p l && all p m)
+  pub all_append : (l m : List A) → all p (l ++ m) ≡ (all p l && all p m)
   unfolding all
   all_append [] m = refl
   all_append (a ∷ l) m = rw (all_append l m) (sym (and_assoc (p a) (all p l) (all p m)))
-
-  -- one of a list more
-  pub all_take : (l : List A) (n : ℕ) (d : A) → n < length l → all p (take (n + 1) l) ≡ (all p (take n l) && p (get_or l n d))
-  unfolding all
-  all_take l n d h = rw (add-one, take-suc l n d h, all_append (take n l) (get_or l n d ∷ []), and-true)
 
 -- ---- pieces of one length, one behind the other
 

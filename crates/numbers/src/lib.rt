@@ -1,72 +1,71 @@
 // Vectors and rotations among the numbers of a slice.
 #![tactic(auto)]
 
-ghost use Rattle.std.specs.Prelude.{◌≡◌, ◌+◌, ◌≤◌, length, replicate};
+ghost use Rattle.std.specs.Prelude.{ℕ, List, Float, ◌≡◌, ◌+◌, ◌≤◌, length};
 ghost use Rattle.std.proofs.lemmas.List.Edits.{sets};
-ghost use Rattle.scalar.specs.Arith.{f0};
 ghost use Rattle.numbers.specs.Numbers.{numbers3, numbers4, vec3_in, quat_in};
 
 use vector::{Quat, Vec3};
 
-pub fn vec3_in(s: &[f32], at: usize) -> Vec3
-    requires { at + 3 ≤ length s.now }
-    ensures { result ≡ vec3_in s.now at }
-{
-    Vec3 {
-        x: s[at],
-        y: s[at + 1],
-        z: s[at + 2],
+// Values that are so many numbers in a row.
+pub trait Numbers {
+    ghost count: { ℕ };
+
+    ghost numbers: { Self → List Float };
+
+    ghost read_from: { List Float → ℕ → Self };
+
+    fn read(s: &[f32], at: usize) -> Self
+        requires { at + count ≤ length s.now }
+        ensures { result ≡ read_from s.now at };
+
+    fn write(self, s: &mut [f32], at: usize)
+        requires { at + count ≤ length s.old }
+        ensures { s.new ≡ sets s.old at (numbers self) };
+}
+
+impl Numbers for Vec3 {
+    ghost count = { 3 };
+
+    ghost numbers = { numbers3 };
+
+    ghost read_from = { vec3_in };
+
+    fn read(s: &[f32], at: usize) -> Vec3 {
+        Vec3 {
+            x: s[at],
+            y: s[at + 1],
+            z: s[at + 2],
+        }
+    }
+
+    fn write(self, s: &mut [f32], at: usize) {
+        s[at] = self.x;
+        s[at + 1] = self.y;
+        s[at + 2] = self.z;
     }
 }
 
-pub fn quat_in(s: &[f32], at: usize) -> Quat
-    requires { at + 4 ≤ length s.now }
-    ensures { result ≡ quat_in s.now at }
-{
-    Quat {
-        x: s[at],
-        y: s[at + 1],
-        z: s[at + 2],
-        w: s[at + 3],
+impl Numbers for Quat {
+    ghost count = { 4 };
+
+    ghost numbers = { numbers4 };
+
+    ghost read_from = { quat_in };
+
+    fn read(s: &[f32], at: usize) -> Quat {
+        Quat {
+            x: s[at],
+            y: s[at + 1],
+            z: s[at + 2],
+            w: s[at + 3],
+        }
     }
-}
 
-pub fn write_vec3(s: &mut [f32], at: usize, v: Vec3)
-    requires { at + 3 ≤ length s.old }
-    ensures { s.new ≡ sets s.old at (numbers3 v) }
-{
-    s[at] = v.x;
-    s[at + 1] = v.y;
-    s[at + 2] = v.z;
-}
-
-pub fn write_quat(s: &mut [f32], at: usize, q: Quat)
-    requires { at + 4 ≤ length s.old }
-    ensures { s.new ≡ sets s.old at (numbers4 q) }
-{
-    s[at] = q.x;
-    s[at + 1] = q.y;
-    s[at + 2] = q.z;
-    s[at + 3] = q.w;
-}
-
-pub fn clear(s: &mut [f32])
-    ensures { s.new ≡ replicate (length s.old) f0 }
-{
-    let mut n = 0;
-    while n < s.len() {
-        s[n] = 0.0;
-        n += 1;
-    }
-}
-
-pub fn copy(from: &[f32], to: &mut [f32])
-    requires { length to.old ≡ length from.now }
-    ensures { to.new ≡ from.now }
-{
-    let mut n = 0;
-    while n < from.len() {
-        to[n] = from[n];
-        n += 1;
+    fn write(self, s: &mut [f32], at: usize) {
+        s[at] = self.x;
+        s[at + 1] = self.y;
+        s[at + 2] = self.z;
+        s[at + 3] = self.w;
     }
 }

@@ -1,45 +1,56 @@
-// What the programs that replay the oracle's stored answers share: numbers from bytes, high byte first, and numbers as hexadecimal bits.
+// What the programs that replay the oracle's stored answers share: the records of their input, high byte first.
 #![tactic(auto)]
 
-ghost use Rattle.std.specs.Prelude.{◌<◌};
-
+use input::read_full;
 use std::io;
+use std::io::Read;
 
-fn wide(x: u8) -> u32
-    ensures { result < 256 }
+pub trait Record: Sized {
+    // None at the input's end, also where that cuts the record short.
+    fn read<R: Read>(from: &mut R) -> io::Result<Option<Self>>;
+}
+
+fn read_bytes<R: Read, const N: usize>(from: &mut R) -> io::Result<Option<[u8; N]>> {
+    let mut bytes = [0; N];
+    let full = read_full(from, &mut bytes)? == N;
+    Ok(full.then_some(bytes))
+}
+
+impl Record for u16 {
+    fn read<R: Read>(from: &mut R) -> io::Result<Option<u16>> {
+        Ok(read_bytes(from)?.map(u16::from_be_bytes))
+    }
+}
+
+impl Record for f32 {
+    fn read<R: Read>(from: &mut R) -> io::Result<Option<f32>> {
+        let bytes = read_bytes(from)?;
+        Ok(bytes.map(|b| scalar::from_bits(u32::from_be_bytes(b))))
+    }
+}
+
+// One behind the other.
+impl<A: Record + Drop, B: Record + Drop> Record for (A, B) {
+    fn read<R: Read>(from: &mut R) -> io::Result<Option<(A, B)>> {
+        let Some(a) = A::read(from)? else {
+            return Ok(None);
+        };
+        Ok(B::read(from)?.map(|b| (a, b)))
+    }
+}
+
+pub fn each_record<T: Record, F: Fn(T) -> io::Result<()>>(
+    rt: &HostRuntime,
+    replay: F,
+) -> io::Result<()>
+    requires { F.IsAlwaysCallable replay }
 {
-    x as u32
-}
-
-pub fn word(a: u8, b: u8, c: u8, d: u8) -> u32 {
-    wide(a) * 16777216 + wide(b) * 65536 + wide(c) * 256 + wide(d)
-}
-
-// The number of a bit pattern; every pattern of a NaN is one NaN.
-pub fn number(bits: u32) -> f32 {
-    if bits % 2147483648 > 2139095040 {
-        return 0.0 / 0.0;
+    // Nothing says that the input ends, so the loop counts its turns, up to a number that no input uses up.
+    for _ in 0..u64::MAX {
+        let Some(record) = T::read(&mut rt.stdin())? else {
+            break;
+        };
+        replay(record)?;
     }
-    f32::from_bits(bits)
-}
-
-// A NaN is 7fc00000.
-pub fn bits(x: f32) -> u32 {
-    if x != x {
-        return 2143289344;
-    }
-    f32::to_bits(x)
-}
-
-pub fn print_number(rt: &impl Print, x: f32) -> io::Result<()> {
-    let bits = bits(x);
-    print!(rt; "{bits:08x}")
-}
-
-pub fn print_space(rt: &impl Print) -> io::Result<()> {
-    rt.write_all(b" ")
-}
-
-pub fn print_line_end(rt: &impl Print) -> io::Result<()> {
-    rt.write_all(b"\n")
+    Ok(())
 }

@@ -2,88 +2,52 @@
 // state answers, the ticks that it did, and the sum of the state after it.
 #![tactic(auto)]
 
-ghost use Rattle.std.specs.Prelude.{◌<◌};
-
+use card::refusal::number_of;
 use input::read_full;
-use replay::{bits, print_line_end, print_space};
+use replay::each_record;
+use scalar::to_bits;
 use state::sizes::sizes;
 use state::start::start;
 use std::io;
-use std::io::Read;
 use tick::run::run;
 
 // The state of 255 bodies and 255 joints: no card has more of either.
 const LARGEST: usize = 6375;
 
-fn pair(high: u8, low: u8) -> u32
-    ensures { result < 65536 }
-{
-    (high as u32) * 256 + (low as u32)
-}
-
 // A polynomial in the numbers' bits, modulo the largest prime below 2^32: where one number is another, so is the sum.
 fn sum(state: &[f32]) -> u64 {
-    let mut sum = 0;
-    let mut i = 0;
-    while i < state.len() {
-        sum = (sum * 16777619 + (bits(state[i]) as u64)) % 4294967291;
-        i += 1;
-    }
-    sum
+    state.iter().fold(0, |sum, x| {
+        ((sum as u128 * 16777619 + to_bits(*x) as u128) % 4294967291) as u64
+    })
 }
 
 fn replay_run(rt: &impl Print, card: &[u8], state: &mut [f32], ticks: u32) -> io::Result<()> {
-    start(card, state);
+    // A state that is refused stays as it was, and so is refused by the run.
+    let _ = start(card, state);
     let ran = run(card, state, ticks);
-    let answer = ran.answer;
-    rt.print(answer.number())?;
-    print_space(rt)?;
-    rt.print(ran.ticks)?;
-    print_space(rt)?;
-    let sum = sum(state);
-    print!(rt; "{sum:08x}")?;
-    print_line_end(rt)
+    let number = number_of(ran.answer);
+    println!(rt; "{number} {} {:08x}", ran.ticks, sum(state))
 }
 
 // The state of a card that is refused has no number.
 fn replay_card(rt: &impl Print, card: &[u8], ticks: u32) -> io::Result<()> {
-    let size = sizes(card);
-    let numbers = size.state;
     let mut room = [0.0; LARGEST];
-    replay_run(rt, card, &mut room[..numbers], ticks)
-}
-
-// A card that fills the room, or the end of the input.
-fn replay_read(
-    rt: &impl Print,
-    from: &mut impl Read,
-    room: &mut [u8],
-    ticks: u32,
-) -> io::Result<bool> {
-    if read_full(from, room)? < room.len() {
-        return Ok(false);
+    match sizes(card) {
+        Ok(sizes) => replay_run(rt, card, &mut room[..sizes.state], ticks),
+        Err(_) => replay_run(rt, card, &mut room[..0], ticks),
     }
-    replay_card(rt, room, ticks)?;
-    Ok(true)
 }
 
-fn replay_next(rt: &impl Print, from: &mut impl Read) -> io::Result<bool> {
-    let mut head = [0u8; 4];
-    if read_full(from, &mut head)? < 4 {
-        return Ok(false);
+// With a card of so many bytes, where the input has them.
+fn replay(rt: &HostRuntime, ticks: u16, length: u16) -> io::Result<()> {
+    let mut room = [0; 65536];
+    let card = &mut room[..length as usize];
+    if read_full(&mut rt.stdin(), card)? < card.len() {
+        return Ok(());
     }
-    let ticks = pair(head[0], head[1]);
-    let length = pair(head[2], head[3]) as usize;
-    let mut room = [0u8; 65536];
-    replay_read(rt, from, &mut room[..length], ticks)
+    replay_card(rt, card, ticks as u32)
 }
 
-// Nothing says that the input ends, so the loop counts its turns, up to a number that no input uses up.
 fn main(rt: HostRuntime) -> io::Result<()> {
-    for _ in 0..u64::MAX {
-        if !replay_next(&rt, &mut rt.stdin())? {
-            break;
-        }
-    }
-    Ok(())
+    each_record(&rt, |(ticks, length)| replay(&rt, ticks, length))
 }

@@ -2,12 +2,13 @@
 use mathlib.Core.Path.{◌≡◌, refl, sym, ap, ◌∙◌, subst}
 use mathlib.Core.Bool.{Bool, true, false, not, cond}
 use Prim.Native.Nat.{ℕ, zero, suc, ◌+◌, ◌-◌, ◌*◌, ◌/◌, ◌%◌, ◌^◌, ◌≤◌, ◌<◌}
-use native.Mathlib.Nat.{div-add-mod, add-mul, mul_assoc, mul_comm, mul_right_comm, mul-add-mod_self_left, mod-eq_of_lt, mod-lt, mul-lt-mul_of_pos_right, mul-pos, zero-mul, eq_of_mul-eq-mul_right, le_trans, lt_of_lt_of_le, mul-le-mul, le_of_eq}
+use native.Mathlib.Nat.{div-add-mod, add-mul, mul_assoc, mul_comm, mul_left_comm, mul_right_comm, mul-add-mod_self_left, mod-eq_of_lt, mod-lt, mul-lt-mul_of_pos_right, mul-pos, zero-mul, eq_of_mul-eq-mul_right, le_trans, lt_of_lt_of_le, mul-le-mul, le_of_eq}
+use Rattle.std.proofs.lemmas.Nat.{mul-mod_second}
 use native.Mathlib.Decide.{dec_lt}
 use native.Mathlib.Omega.{arith}
 use lib.Dec.{T, eqb, eqb→eq, leb}
 use lib.Pow.{pow_pos, pow-add, pow_mono, shl_lt}
-use lib.Ieee.{Float, nan, inf, fin, binary32, up, down, round, rem, div, neg, of_bits, to_bits, of_fields, fits, is_nan}
+use lib.Ieee.{Float, nan, inf, fin, binary32, up, down, round, rem, neg, of_bits, to_bits, of_fields, fits, is_nan}
 use lib.Ieee.Bits.{of_bits-to_bits, of_bits-fits, cond_no}
 use lib.Ieee.Fits.{down_pos, neg-fits, rem-fits}
 use lib.Ieee.Exact.{HasValue, round_exact}
@@ -26,16 +27,9 @@ mod_scaled x y z py pz =
     ap (λ (k : ℕ). k * z) (sym (div-add-mod x y)) ∙ add-mul (y * (x / y)) (x % y) z ∙ ap (λ (k : ℕ). k + x % y * z) (mul_right_comm y (x / y) z)
     in ap (λ (k : ℕ). k % (y * z)) whole ∙ mul-add-mod_self_left (y * z) (x / y) (x % y * z) ∙ mod-eq_of_lt (mul-lt-mul_of_pos_right (mod-lt x py) pz)
 
-pub doubled : (z d : ℕ) → 2 * (z % d) % d ≡ z * 2 % d
-doubled z d =
-    let whole : z * 2 ≡ d * (z / d * 2) + z % d * 2 =
-    ap (λ (k : ℕ). k * 2) (sym (div-add-mod z d)) ∙ add-mul (d * (z / d)) (z % d) 2 ∙ ap (λ (k : ℕ). k + z % d * 2) (mul_assoc d (z / d) 2)
-    in ap (λ (k : ℕ). k % d) (mul_comm 2 (z % d)) ∙ sym (mul-add-mod_self_left d (z / d * 2) (z % d * 2)) ∙ ap (λ (k : ℕ). k % d) (sym whole)
-
 -- one turn of the loop
 pub more : (m i d r : ℕ) → r ≡ m * 2 ^ i % d → 2 * r % d ≡ m * 2 ^ (i + 1) % d
-more m i d r e =
-    ap (λ (k : ℕ). 2 * k % d) e ∙ doubled (m * 2 ^ i) d ∙ ap (λ (k : ℕ). k % d) (mul_assoc m (2 ^ i) 2 ∙ ap (λ (k : ℕ). m * k) (sym (pow-add 2 i 1)))
+more m i d r e = rw (e, mul-mod_second 2 (m * 2 ^ i) d, pow-add 2 i 1, mul_left_comm 2 m (2 ^ i), mul_comm 2 (2 ^ i))
 
 -- ---- in units
 
@@ -247,21 +241,12 @@ minus nan n h = absurd h
 minus (inf s) n h = absurd h
 minus (fin s m e) n h = (ap not h.0, h.1)
 
-module _ (x y v w : Float) (ex : v ≡ abs_of x) (ey : w ≡ abs_of y) (fx : T (fits binary32 x)) (fy : T (fits binary32 y)) (r : ℕ) (small : r < 2139095040) where
-  abbrev a : ℕ
-  a = to_bits binary32 v
-
-  abbrev b : ℕ
-  b = to_bits binary32 w
-
-  has : (z size : Float) → size ≡ abs_of z → T (fits binary32 z) → to_bits binary32 size < 2139095040 → HasValue z (sign_bit z) (units (to_bits binary32 size)) (2 ^ 149)
-  has z size e f l =
-      signed z _
-      (subst (λ (u : Float). HasValue u false (units (to_bits binary32 size)) (2 ^ 149))
-      (of_bits-to_bits binary32 size (subst (λ (u : Float). T (fits binary32 u)) (sym e) (abs-fits z f)) ∙ e) (value (to_bits binary32 size) l))
+module _ (x y : Float) (a b r : ℕ) (ea : a ≡ to_bits binary32 (abs_of x)) (eb : b ≡ to_bits binary32 (abs_of y)) (fx : T (fits binary32 x)) (fy : T (fits binary32 y)) (small : r < 2139095040) where
+  has : (z : Float) (n : ℕ) → n ≡ to_bits binary32 (abs_of z) → T (fits binary32 z) → n < 2139095040 → HasValue z (sign_bit z) (units n) (2 ^ 149)
+  has z n e f l = signed z _ (subst (λ (u : Float). HasValue u false (units n) (2 ^ 149)) (ap (λ (k : ℕ). of_bits binary32 k) e ∙ of_bits-to_bits binary32 (abs_of z) (abs-fits z f)) (value n l))
 
   remains : a < 2139095040 → b < 2139095040 → 0 < b → units r ≡ units a % units b → HasValue (rem binary32 x y) (sign_bit x) (units r) (2 ^ 149)
-  remains la lb p e = remainder_value (sig_of r) (exp_of r - 1) (wide r small) (bounded r small) x y (sign_bit x) (sign_bit y) (units a) (units b) (has x v ex fx la) (has y w ey fy lb) (mul-pos (leading_part b p lb) (pow_pos (exp_of b - 1))) e
+  remains la lb p e = remainder_value (sig_of r) (exp_of r - 1) (wide r small) (bounded r small) x y (sign_bit x) (sign_bit y) (units a) (units b) (has x a ea fx la) (has y b eb fy lb) (mul-pos (leading_part b p lb) (pow_pos (exp_of b - 1))) e
 
   pub above_zero : a < 2139095040 → b < 2139095040 → 0 < b → units r ≡ units a % units b → sign_bit x ≡ false → of_bits binary32 r ≡ rem binary32 x y
   above_zero la lb p e s =
@@ -320,9 +305,5 @@ no_divisor (fin s m d) nan e = refl
 no_divisor (fin s m d) (inf t) e = absurd (omega arith)
 no_divisor (fin s m d) (fin t q k) e = rw (eq-eqb q 0 e) refl
 
-pub by_zero : (x y v : Float) → v ≡ abs_of y → T (fits binary32 y) → to_bits binary32 v ≡ 0 → nan ≡ rem binary32 x y
-by_zero x y v ev f e = no_divisor x y (no_digits y f (ap (λ (z : Float). to_bits binary32 z) (sym ev) ∙ e))
-
-pub zero_over_zero : div binary32 (of_bits binary32 0) (of_bits binary32 0) ≡ nan
-unfolding div of_bits
-zero_over_zero = refl
+pub by_zero : (x y : Float) (b : ℕ) → b ≡ to_bits binary32 (abs_of y) → T (fits binary32 y) → b ≡ 0 → nan ≡ rem binary32 x y
+by_zero x y b e f z = no_divisor x y (no_digits y f (sym e ∙ z))

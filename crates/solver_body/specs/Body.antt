@@ -48,10 +48,13 @@ dummy_inertia =
 unfoldable pub unlocked : Bool → Float → Float
 unlocked locked m = if locked then f0 else m
 
-unfoldable pub effective_inv_mass : SolverBodyInertia → Vec3
-effective_inv_mass i =
+abbrev pub unlocked_axes : SolverBodyInertia → Vec3 → Vec3
+unlocked_axes i v =
     record {
-      x = unlocked i.translation_x_locked i.inv_mass;
-      y = unlocked i.translation_y_locked i.inv_mass;
-      z = unlocked i.translation_z_locked i.inv_mass;
+      x = unlocked i.translation_x_locked v.x;
+      y = unlocked i.translation_y_locked v.y;
+      z = unlocked i.translation_z_locked v.z;
     }
+
+unfoldable pub effective_inv_mass : SolverBodyInertia → Vec3
+effective_inv_mass i = unlocked_axes i (record { x = i.inv_mass; y = i.inv_mass; z = i.inv_mass })

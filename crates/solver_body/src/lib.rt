@@ -2,7 +2,7 @@
 #![tactic(auto)]
 
 ghost use Rattle.std.specs.Prelude.{◌≡◌};
-ghost use Rattle.solver_body.specs.Body.{solver_body_of, unlocked, effective_inv_mass};
+ghost use Rattle.solver_body.specs.Body.{solver_body_of, unlocked, unlocked_axes, effective_inv_mass};
 ghost use Rattle.solver_body.specs.Parts.{is_valid};
 
 use vector::{Quat, SymmetricTensor, Vec3};
@@ -27,21 +27,6 @@ pub struct BodyState {
     pub angular_velocity: Vec3,
 }
 
-impl BodyState {
-    pub fn solver_body(self) -> SolverBody
-        ensures { result ≡ solver_body_of self }
-    {
-        let linear_velocity = self.linear_velocity;
-        let angular_velocity = self.angular_velocity;
-        SolverBody {
-            linear_velocity,
-            angular_velocity,
-            delta_position: Vec3::ZERO,
-            delta_rotation: Quat::IDENTITY,
-        }
-    }
-}
-
 // A body's velocities, and how far it was moved and turned since the step began.
 #[derive(Clone, Copy)]
 pub struct SolverBody {
@@ -51,21 +36,24 @@ pub struct SolverBody {
     pub delta_rotation: Quat,
 }
 
+impl From<BodyState> for SolverBody {
+    ghost from_gives = { λ state b. b ≡ solver_body_of state };
+
+    #[tactic(auto, unfolding(crate::specs::Body::solver_body_of))]
+    fn from(state: BodyState) -> SolverBody {
+        SolverBody {
+            linear_velocity: state.linear_velocity,
+            angular_velocity: state.angular_velocity,
+            delta_position: Vec3::ZERO,
+            delta_rotation: Quat::IDENTITY,
+        }
+    }
+}
+
 #[derive(Clone, Copy)]
 pub struct BodyPair {
     pub body1: SolverBody,
     pub body2: SolverBody,
-}
-
-impl BodyPair {
-    // A copy, for a call that the compiler keeps out of line: a variable that is passed whole stays in memory, and what else is read of it comes from there.
-    pub fn copied(self) -> BodyPair
-        ensures { result ≡ self }
-    {
-        let body1 = self.body1;
-        let body2 = self.body2;
-        BodyPair { body1, body2 }
-    }
 }
 
 impl SolverBody {
@@ -89,7 +77,8 @@ pub struct SolverBodyInertia {
 }
 
 // Nothing moves along a locked axis.
-pub fn unlocked(locked: bool, value: f32) -> f32
+#[tactic(auto, unfolding(crate::specs::Body::unlocked))]
+fn unlocked(locked: bool, value: f32) -> f32
     ensures { result ≡ unlocked locked value }
 {
     if locked { 0.0 } else { value }
@@ -105,14 +94,25 @@ impl SolverBodyInertia {
         translation_z_locked: false,
     };
 
+    pub fn unlocked_axes(self, v: Vec3) -> Vec3
+        ensures { result ≡ unlocked_axes self v }
+    {
+        Vec3 {
+            x: unlocked(self.translation_x_locked, v.x),
+            y: unlocked(self.translation_y_locked, v.y),
+            z: unlocked(self.translation_z_locked, v.z),
+        }
+    }
+
+    #[tactic(auto, unfolding(crate::specs::Body::effective_inv_mass))]
     pub fn effective_inv_mass(self) -> Vec3
         ensures { result ≡ effective_inv_mass self }
     {
-        Vec3 {
-            x: unlocked(self.translation_x_locked, self.inv_mass),
-            y: unlocked(self.translation_y_locked, self.inv_mass),
-            z: unlocked(self.translation_z_locked, self.inv_mass),
-        }
+        self.unlocked_axes(Vec3 {
+            x: self.inv_mass,
+            y: self.inv_mass,
+            z: self.inv_mass,
+        })
     }
 }
 
@@ -121,7 +121,7 @@ impl SolverBodyInertia {
 pub struct SolverBodyIndex(pub u32);
 
 impl SolverBodyIndex {
-    // An anchored body has no place there.
+    // An anchored body has no place there: a constant of its type, as document 01 has it.
     pub const INVALID: SolverBodyIndex = SolverBodyIndex(u32::MAX);
 
     pub fn is_valid(self) -> bool

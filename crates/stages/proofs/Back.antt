@@ -1,5 +1,5 @@
 -- Finite at the end of a joint's solve: finite all the way. Totals and displacements change by sums only, and a stage that returns early changes neither (or adds zero to its total).
-use Rattle.std.specs.Prelude.{if◌then◌else◌}
+use Rattle.std.specs.Prelude.{Option, None, Some, Float, if◌then◌else◌}
 use mathlib.Core.Path.{◌≡◌, refl}
 use mathlib.Core.Bool.{Bool, true, false}
 use mathlib.Core.List.{List, [], ◌∷◌}
@@ -9,8 +9,6 @@ use Rattle.vector.specs.Vector.{origin, neg_of, scale_of, times_of}
 use Rattle.vector.specs.Rotation.{turn_of}
 use Rattle.vector.specs.declared.Vec3.{Vec3}
 use Rattle.vector.specs.declared.SymmetricTensor.{SymmetricTensor}
-use Rattle.joints.specs.declared.motor.MotorLagrange.{MotorLagrange}
-use Rattle.joints.specs.declared.motor.MotorLagrange.TheVariants.{None, Some}
 use Rattle.solver_body.specs.Body.{effective_inv_mass}
 use Rattle.solver_body.specs.declared.SolverBodyInertia.{SolverBodyInertia}
 use Rattle.solver_body.specs.declared.BodyPair.{BodyPair}
@@ -82,7 +80,7 @@ done_back true l s r e h =
     (record { still = rw e at (after_back s h.still); totals = k.0 }, λ _. k.1)
 done_back false l s r e h = (uncalled_back (correction_of (entry_of s)).still l r h, λ x. absurd x)
 
-pub hinge_back : (S : Setting) (g : MotorLagrange) (a : Vec3) (r : Run) → Calm (hinge_driven S g a r) → Calm r × T (real (push_multiplier g))
+pub hinge_back : (S : Setting) (g : Option Float) (a : Vec3) (r : Run) → Calm (hinge_driven S g a r) → Calm r × T (real (push_multiplier g))
 unfolding of_bits
 hinge_back S None a r h = (h, tt)
 hinge_back S (Some Δλ) a r h =
@@ -94,7 +92,7 @@ hinge_back S (Some Δλ) a r h =
       scale_back a Δλ k.1,
     )
 
-pub slide_back : (S : Setting) (g : MotorLagrange) (r₁ r₂ a : Vec3) (r : Run) → Calm (slide_driven S g r₁ r₂ a r) → Calm r × T (real (push_multiplier g))
+pub slide_back : (S : Setting) (g : Option Float) (r₁ r₂ a : Vec3) (r : Run) → Calm (slide_driven S g r₁ r₂ a r) → Calm r × T (real (push_multiplier g))
 unfolding of_bits
 slide_back S None r₁ r₂ a r h = (h, tt)
 slide_back S (Some Δλ) r₁ r₂ a r h =

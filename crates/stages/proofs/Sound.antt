@@ -1,5 +1,6 @@
 -- What a joint's solve whose end is finite leaves of each stage and push: `SoundStage` and `SoundPush`, all that the laws of rounding ask for.
-use Rattle.std.specs.Prelude.{if◌then◌else◌}
+use Rattle.std.specs.List.{AllByRecursion}
+use Rattle.std.specs.Prelude.{Option, None, Some, if◌then◌else◌}
 use mathlib.Core.Path.{refl}
 use mathlib.Core.Bool.{Bool, true, false, not}
 use mathlib.Core.List.{List, [], ◌∷◌, ◌++◌, Memᴰ}
@@ -19,8 +20,6 @@ use Rattle.joints.specs.declared.DistanceCorrection.{DistanceCorrection}
 use Rattle.joints.specs.declared.AngleCorrection.{AngleCorrection}
 use Rattle.joints.specs.declared.AngleCorrection.TheVariants as limit
 use Rattle.joints.specs.declared.motor.MotorModel.{MotorModel}
-use Rattle.joints.specs.declared.motor.MotorLagrange.{MotorLagrange}
-use Rattle.joints.specs.declared.motor.MotorLagrange.TheVariants.{None, Some}
 use Rattle.joints.specs.declared.motor.AngularMotor.{AngularMotor}
 use Rattle.joints.specs.declared.motor.LinearMotor.{LinearMotor}
 use Rattle.solver_body.specs.Body.{effective_inv_mass}
@@ -54,7 +53,7 @@ abbrev pub SoundStage : Stage → Type 0
 SoundStage s = SoundEntry (entry_of s) s.compliance
 
 -- what a motor gives: none, or a multiplier after the cap
-pub data Given (cap dt : Float) : MotorLagrange → Type 0 where
+pub data Given (cap dt : Float) : Option Float → Type 0 where
   given_none : Given cap dt None
   given_some : (x : Float) → T (fits binary32 x) → Given cap dt (Some (capped x cap dt))
 
@@ -69,15 +68,11 @@ EventSound (a_stage s) = SoundStage s
 EventSound (a_push p) = SoundPush p
 
 -- ---- each of a list
-abbrev pub All : {A : Type 0} → (A → Type 0) → List A → Type 0
-All P [] = Unit
-All P (x ∷ l) = P x × All P l
-
-pub all_append : {A : Type 0} (P : A → Type 0) (l m : List A) → All P l → All P m → All P (l ++ m)
+pub all_append : {A : Type 0} (P : A → Type 0) (l m : List A) → AllByRecursion P l → AllByRecursion P m → AllByRecursion P (l ++ m)
 all_append P [] m h k = k
 all_append P (x ∷ l) m h k = (h.0, all_append P l m h.1 k)
 
-pub all_at : {A : Type 0} (P : A → Type 0) {x : A} {l : List A} → All P l → Memᴰ x l → P x
+pub all_at : {A : Type 0} (P : A → Type 0) {x : A} {l : List A} → AllByRecursion P l → Memᴰ x l → P x
 all_at P h (Memᴰ.head e) = rw e h.0
 all_at P h (Memᴰ.tail m) = all_at P h.1 m
 
@@ -144,7 +139,7 @@ lagrange_shape model cap v x w h =
     let c = velocity_change model v x w h ⊗ h in
     either (Given cap h) (le (abs_of c) epsilon) None (Some (capped (c ⊘ w) cap h)) given_none (given_some (c ⊘ w) (div-fits binary32 c w))
 
-off_shape : (enabled : Bool) (cap w h : Float) (g : MotorLagrange) → Given cap h g → Given cap h (unless_off enabled w g)
+off_shape : (enabled : Bool) (cap w h : Float) (g : Option Float) → Given cap h g → Given cap h (unless_off enabled w g)
 unfolding unless_off
 off_shape enabled cap w h g k =
     either (Given cap h) (not enabled) None (if le w epsilon then None else g) given_none (either (Given cap h) (le w epsilon) None g given_none k)
@@ -176,12 +171,12 @@ done_fit : (v : Bool) (l : Slot) (s : Stage) (r : Run) → Fit s.bodies → Fit 
 done_fit true l s r f g = after_fit s f
 done_fit false l s r f g = uncalled_fit (correction_of (entry_of s)).still l r g
 
-hinge_fit : (S : Setting) (g : MotorLagrange) (a : Vec3) (r : Run) → Fit r.bodies → Fit (hinge_driven S g a r).bodies
+hinge_fit : (S : Setting) (g : Option Float) (a : Vec3) (r : Run) → Fit r.bodies → Fit (hinge_driven S g a r).bodies
 unfolding angular_impulse_applied turned
 hinge_fit S None a r f = f
 hinge_fit S (Some Δλ) a r f = record { p₁ = f.p₁; p₂ = f.p₂ }
 
-slide_fit : (S : Setting) (g : MotorLagrange) (r₁ r₂ a : Vec3) (r : Run) → Fit r.bodies → Fit (slide_driven S g r₁ r₂ a r).bodies
+slide_fit : (S : Setting) (g : Option Float) (r₁ r₂ a : Vec3) (r : Run) → Fit r.bodies → Fit (slide_driven S g r₁ r₂ a r).bodies
 unfolding impulse_applied pushed pulled
 slide_fit S None r₁ r₂ a r f = f
 slide_fit S (Some Δλ) r₁ r₂ a r f = record { p₁ = add_fits3 _ _; p₂ = sub_fits3 _ _ }
@@ -201,16 +196,16 @@ run_fit S [] r f = f
 run_fit S (s ∷ l) r f = run_fit S l (stepped S s r) (step_fit S s r f)
 
 -- ---- a step's events
-listed : (v : Bool) (s : Stage) → (T v → SoundStage s) → All EventSound (if v then a_stage s ∷ [] else [])
+listed : (v : Bool) (s : Stage) → (T v → SoundStage s) → AllByRecursion EventSound (if v then a_stage s ∷ [] else [])
 listed true s h = (h tt, tt)
 listed false s h = tt
 
 -- a motor's push, where motors push
-pushed_sound : (v : Bool) (p : MotorPush) (x r : Run) → (Calm x → SoundPush p) → Calm (if v then x else r) → All EventSound (if v then a_push p ∷ [] else [])
+pushed_sound : (v : Bool) (p : MotorPush) (x r : Run) → (Calm x → SoundPush p) → Calm (if v then x else r) → AllByRecursion EventSound (if v then a_push p ∷ [] else [])
 pushed_sound true p x r f h = (f h, tt)
 pushed_sound false p x r f h = tt
 
-step_sound : (S : Setting) → SettingOk S → (s : Step) → StepOk s → (r : Run) → Fit r.bodies → Calm (stepped S s r) → All EventSound (events_of S s r.bodies)
+step_sound : (S : Setting) → SettingOk S → (s : Step) → StepOk s → (r : Run) → Fit r.bodies → Calm (stepped S s r) → AllByRecursion EventSound (events_of S s r.bodies)
 unfolding total_change
 step_sound S o (compliant l k α) a r f h =
     let s = stage_at S k α r.bodies in
@@ -242,7 +237,7 @@ step_sound S o (slide_motor m arm₁ arm₂ d axis) a r f h =
     (λ (k : Calm x). record { cap_fits = a; dt_held = o.dt_held; shape = slide_shape S m arm₁ arm₂ d axis r.bodies; no_nan = (slide_back S g r₁ r₂ (turn_of q₁ axis) r k).1 }) h
 
 -- ---- a joint's
-pub steps_sound : (S : Setting) → SettingOk S → (l : List Step) → All StepOk l → (r : Run) → Fit r.bodies → Calm (run S l r) → All EventSound (events S l r)
+pub steps_sound : (S : Setting) → SettingOk S → (l : List Step) → AllByRecursion StepOk l → (r : Run) → Fit r.bodies → Calm (run S l r) → AllByRecursion EventSound (events S l r)
 unfolding run events
 steps_sound S o [] a r f h = tt
 steps_sound S o (s ∷ l) a r f h =

@@ -1,17 +1,15 @@
--- A search through the state's numbers and through its bodies, turn by turn.
-use Prim.Native.Nat.{ℕ, ◌+◌, ◌*◌, ◌≤◌, ◌<◌}
+-- A search through the state's numbers and through its bodies, one by one.
+use Prim.Native.Nat.{ℕ, ◌+◌, ◌*◌}
 use native.Mathlib.Numerals.{add-one}
 use mathlib.Core.Path.{◌≡◌, refl, sym, ◌∙◌}
-use mathlib.Core.Bool.{Bool, true, false, not, ◌||◌, ◌&&◌, or-false, or_assoc}
+use mathlib.Core.Bool.{Bool, true, false, not, ◌||◌, ◌&&◌, and-true, or-false, or_assoc}
 use mathlib.Core.List.{List, [], ◌∷◌, ◌++◌}
-use lib.ListN.{length, get_or, take}
-use lib.Seq.{take_all}
-use lib.Ieee.{Float, nan}
+use lib.Ieee.{Float}
 use Rattle.vector.specs.declared.Vec3.{Vec3}
 use Rattle.scalar.specs.Scalar.{is_finite}
 use Rattle.numbers.specs.Lists.{all, each}
 use Rattle.numbers.specs.Numbers.{vec3_in}
-use Rattle.numbers.proofs.Rows.{all_take}
+use Rattle.numbers.proofs.Rows.{all_append}
 use Rattle.card.specs.Checks.{any}
 use Rattle.state.specs.State.{body_numbers, body_at, far_away}
 use Rattle.state.specs.Parts.{any_far}
@@ -31,14 +29,12 @@ either_not : (a b : Bool) → (not a || not b) ≡ not (a && b)
 either_not true b = refl
 either_not false b = refl
 
+-- one number more
+pub next_number : (ys : List Float) (x : Float) {bad after : Bool} → bad ≡ not (all is_finite ys) → after ≡ (bad || not (is_finite x)) → after ≡ not (all is_finite (ys ++ (x ∷ [])))
+unfolding all
+next_number ys x e f = f ∙ rw (e, all_append is_finite ys (x ∷ []), and-true) (either_not (all is_finite ys) (is_finite x))
+
 module _ (s : List Float) where
-  pub next_number : (n : ℕ) → n < length s → {bad finite : Bool} → bad ≡ not (all is_finite (take n s)) → finite ≡ is_finite (get_or s n nan)
-      → (bad || not finite) ≡ not (all is_finite (take (n + 1) s))
-  next_number n h eb ef = rw (eb, ef, all_take is_finite s n nan h) (either_not (all is_finite (take n s)) (is_finite (get_or s n nan)))
-
-  pub all_numbers : (n : ℕ) → length s ≤ n → {bad : Bool} → bad ≡ not (all is_finite (take n s)) → bad ≡ not (all is_finite s)
-  all_numbers n h e = e ∙ rw (take_all n s h)
-
   pub none_far : false ≡ any_far 0 s
   unfolding any_far any each
   none_far = refl

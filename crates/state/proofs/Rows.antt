@@ -101,9 +101,6 @@ module _ (s : List Float) (n j : ℕ) (t : JointTotals) where
   unfolding body_at
   body_kept i h = body_past (totals_numbers t) s (state_length n j) (body_numbers * i) (inl (omega arith))
 
-  pub all_bodies_kept : each (body_at with_totals) n ≡ each (body_at s) n
-  all_bodies_kept = each_same (body_at with_totals) (body_at s) n body_kept
-
 -- ---- a state of n bodies and m joints, by what is read of it
 
 module _ (s : List Float) where
@@ -168,6 +165,3 @@ module _ (bs : List BodyState) (ts : List JointTotals) where
 
   pub bodies_read : each (body_at state) (length bs) ≡ bs
   bodies_read = each_is (body_at state) (body_at state 0) bs (length bs) refl (λ i. body_read i (body_at state 0))
-
-  pub all_totals_read : each (totals_at (length bs) state) (length ts) ≡ ts
-  all_totals_read = each_is (totals_at (length bs) state) (totals_at 0 state 0) ts (length ts) refl (λ j. totals_read j (totals_at 0 state 0))

@@ -7,24 +7,26 @@ use lib.ListN.{length, take, drop, replicate, length-map, replicate-append-repli
 use lib.Seq.{sets}
 use lib.Ieee.{Float}
 use borrow.Author.Tests.{eq-eqb, ne_eqb}
+use Rattle.std.proofs.lemmas.List.{drop-replicate}
 use Rattle.scalar.specs.Arith.{f0}
 use Rattle.solver_body.specs.declared.BodyState.{BodyState}
 use Rattle.xpbd_joints.specs.Steps.{no_totals}
 use Rattle.numbers.specs.Lists.{concat}
 use Rattle.numbers.proofs.Rows.{concat_last, pieces_length}
-use Rattle.numbers.proofs.Writes.{next_piece, drop-replicate}
+use Rattle.numbers.proofs.Writes.{next_piece}
 use Rattle.card.specs.Format.{bits_at, numbers_at, records_at}
-use Rattle.card.specs.Card.{body, edition_of, edition_at, Card, card_of}
+use Rattle.card.specs.Card.{body, edition_at, Card, card_of}
 use Rattle.card.specs.Checks.{Refusal, first_of, card_checks, check_of}
-use Rattle.card.specs.Parts.{Listed, card_with, header_bits}
+use Rattle.card.specs.Parts.{edition_number, card_with, header_bits}
 use Rattle.card.specs.Parts as parts
+use Rattle.card.specs.declared.edition.Edition as named
 use Rattle.card.specs.declared.edition.EditionSizes.{EditionSizes}
 use Rattle.card.specs.declared.records.HeaderBits.{HeaderBits}
 use Rattle.card.proofs.Cut.{numbers_part, records_length, last_record}
 use Rattle.card.proofs.Checking.{refused_first}
-use Rattle.card.proofs.Editions.{header_width, card_is}
+use Rattle.card.proofs.Editions.{cells, header_width, card_is}
 use Rattle.card.proofs.Accepted.{at_most_200}
-use Rattle.loader.proofs.Accepted.{known, enough}
+use Rattle.loader.proofs.Accepted.{enough}
 use Rattle.loader.specs.Linkage.{start_body}
 use Rattle.state.specs.State.{body_numbers, joint_numbers, state_length, numbers_of, totals_numbers, start_state, start_checks, answered, start_of, sized, sizes_of}
 use Rattle.state.specs.Parts.{length_check, start_numbers, start_in}
@@ -71,12 +73,12 @@ zeros (j ∷ js) =
     let e : joint_numbers * suc (length js) ≡ joint_numbers + joint_numbers * length js = omega arith in
     rw (zeros js, e) (replicate-append-replicate joint_numbers (joint_numbers * length js) f0)
 
-module _ (n : ℕ) (card : List ℕ) (bodies joints : ℕ) (s : List Float) where
+module _ (n : named.Edition) (card : List ℕ) (bodies joints : ℕ) (s : List Float) where
   abbrev c : Card
-  c = card_with (edition_of n) card bodies joints
+  c = card_with (cells n) card bodies joints
 
   many : (length c.bodies ≡ bodies) × (length c.joints ≡ joints)
-  many = (records_length body card _ bodies, records_length (edition_of n).joint card _ joints)
+  many = (records_length body card _ bodies, records_length (cells n).joint card _ joints)
 
   abbrev of_card : List Refusal
   of_card = length_check (length c.bodies) (length c.joints) s ∷ []
@@ -90,13 +92,13 @@ module _ (n : ℕ) (card : List ℕ) (bodies joints : ℕ) (s : List Float) wher
       let e : 11 ≡ first_of (length_check bodies joints s ∷ []) = rw (ne_eqb _ _ x) in
       unless_refused_lem s _ of_card 11 (e ∙ ap first_of (sym lengths)) (λ z. omega arith)
 
-  pub written : Listed n → length s ≡ state_length bodies joints → {sizes : EditionSizes} → sizes ≡ parts.sizes_of n → {s₁ s₂ : List Float} → s₁ ≡ replicate (length s) f0
+  pub written : length s ≡ state_length bodies joints → {sizes : EditionSizes} → sizes ≡ parts.sizes_of n → {s₁ s₂ : List Float} → s₁ ≡ replicate (length s) f0
       → s₂ ≡ start_numbers (records_at body card (8 * sizes.header_bytes) bodies) ++ drop (body_numbers * bodies) s₁ → answered 0 s₂ ≡ start_in c s
   unfolding start_in start_state start_numbers
-  written known e ez {s₁} {s₂} e₁ e₂ =
-      let rest : drop (body_numbers * bodies) s₁ ≡ replicate (joint_numbers * joints) f0 = rw (e₁, e) (drop-replicate (body_numbers * bodies) (joint_numbers * joints) f0) in
+  written e ez {s₁} {s₂} e₁ e₂ =
+      let rest : drop (body_numbers * bodies) s₁ ≡ replicate (joint_numbers * joints) f0 = rw (e₁, e) (drop-replicate (body_numbers * bodies) _ f0 ∙ ap (λ k. replicate k f0) (omega arith)) in
       let totals : concat (map totals_numbers (map (λ j. no_totals) c.joints)) ≡ replicate (joint_numbers * joints) f0 = zeros c.joints ∙ rw many.1 in
-      let new : s₂ ≡ start_state c = e₂ ∙ rw (rest, totals, ez, header_width n known) in
+      let new : s₂ ≡ start_state c = e₂ ∙ rw (rest, totals, ez, header_width n) in
       let none : first_of (length_check bodies joints s ∷ []) ≡ 0 = rw (eq-eqb _ _ e) in
       ap (answered 0) new ∙ unless_passed s (start_state c) of_card (ap first_of lengths ∙ none)
 
@@ -119,19 +121,19 @@ module _ (card : List ℕ) where
   sizes_refused k e x = rw (← e, ne_eqb k 0 x)
 
   -- the card begins with edition n
-  module _ (z : check_of card ≡ 0) {n : ℕ} (en : n ≡ bits_at card 0 8) {h : HeaderBits} (eh : h ≡ header_bits (numbers_at (edition_of n).header card 0)) where
-    card_of_lem : card_of card ≡ card_with (edition_of n) card h.bodies h.joints
+  module _ (z : check_of card ≡ 0) (n : named.Edition) (en : edition_number n ≡ bits_at card 0 8) {h : HeaderBits} (eh : h ≡ header_bits (numbers_at (cells n).header card 0)) where
+    card_of_lem : card_of card ≡ card_with (cells n) card h.bodies h.joints
     unfolding header_bits
     card_of_lem = rw (eh, en) (card_is card)
 
     -- the counts are small, and the bodies and joints are there
-    pub fitting : Listed n × (h.bodies ≤ 255) × (h.joints ≤ 255) × ((parts.sizes_of n).header_bytes + 94 * h.bodies ≤ length card)
+    pub fitting : (h.bodies ≤ 255) × (h.joints ≤ 255) × ((parts.sizes_of n).header_bytes + 94 * h.bodies ≤ length card)
     unfolding header_bits card_of
     fitting =
         let few : (h.bodies ≤ 200) × (h.joints ≤ 200) = rw (eh, en) (at_most_200 card z) in
-        (known card z en, omega (arith, few.0), omega (arith, few.1), rw eh (omega (arith, enough card z en refl)))
+        (omega (arith, few.0), omega (arith, few.1), rw eh (omega (arith, enough card z n en refl)))
 
-    pub started : (s : List Float) → start_in (card_with (edition_of n) card h.bodies h.joints) s ≡ start_of card s
+    pub started : (s : List Float) → start_in (card_with (cells n) card h.bodies h.joints) s ≡ start_of card s
     unfolding start_of start_in check_of
     started s =
         ap (λ c. start_in c s) (sym card_of_lem) ∙ sym (unless_later s (start_state (card_of card)) own (length_check_lem s ∷ []) tt z)

@@ -1,5 +1,5 @@
 -- Document 01, 'State' and 'Turned back', 11 and 12: 13 numbers for each body, then 12 for each joint; its start, and a call that writes it.
-use Rattle.std.specs.Prelude.{ℕ, ◌+◌, ◌*◌, Bool, not, ◌||◌, List, [], ◌∷◌, ◌++◌, map, length, eqb, Float, if◌then◌else◌}
+use Rattle.std.specs.Prelude.{ℕ, ◌+◌, ◌*◌, Bool, not, ◌||◌, List, [], ◌∷◌, ◌++◌, map, length, eqb, Float, if◌then◌else◌, Result, Ok, Err}
 use Rattle.std.specs.Float.Ieee.{neg}
 use Rattle.scalar.specs.Scalar.{is_finite, outside}
 use Rattle.vector.specs.declared.Vec3.{Vec3}
@@ -9,9 +9,12 @@ use Rattle.xpbd_joints.specs.Steps.{no_totals}
 use Rattle.xpbd_joints.specs.declared.JointTotals.{JointTotals}
 use Rattle.numbers.specs.Lists.{all, concat, each}
 use Rattle.numbers.specs.Numbers.{numbers3, numbers4, vec3_in, quat_in}
+use Rattle.card.specs.declared.refusal.Refusal as answer
+use Rattle.card.specs.Answer.{refusal_number}
 use Rattle.card.specs.Card.{edition_at, Card, card_of}
 use Rattle.card.specs.Checks.{any, Refusal, refuse, first_of, card_checks, check_of}
 use Rattle.loader.specs.Linkage.{start_body}
+use Rattle.state.specs.declared.sizes.CardSizes.{CardSizes}
 
 abbrev pub body_numbers : ℕ
 body_numbers = 13
@@ -99,6 +102,11 @@ pub record Sizes : Type 0 where
 
 abbrev pub sized : ℕ → ℕ → ℕ → Sizes
 sized n b j = record { number = n; bodies = b; joints = j; state = state_length b j }
+
+-- as a call answers them
+abbrev pub sizes_answered : Result CardSizes answer.Refusal → Sizes
+sizes_answered (Ok s) = record { number = 0; bodies = s.bodies; joints = s.joints; state = s.state }
+sizes_answered (Err refusal) = sized (refusal_number refusal) 0 0
 
 -- zeros where the card is refused
 unfoldable pub sizes_of : List ℕ → Sizes

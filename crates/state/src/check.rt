@@ -6,7 +6,7 @@ ghost use Rattle.state.specs.State.{body_numbers, far_away, bad_numbers};
 ghost use Rattle.state.specs.Parts.{any_far};
 
 use crate::places::BODY_NUMBERS;
-use numbers::vec3_in;
+use numbers::Numbers;
 use scalar::{is_finite, outside};
 use solver_body::POSITION_BOUND;
 use vector::Vec3;
@@ -15,13 +15,7 @@ use vector::Vec3;
 fn any_not_finite(state: &[f32]) -> bool
     ensures { result ≡ not (all is_finite state.now) }
 {
-    let mut bad = false;
-    let mut n = 0;
-    while n < state.len() {
-        bad = bad | !is_finite(state[n]);
-        n += 1;
-    }
-    bad
+    state.iter().fold(false, |bad, x| bad | !is_finite(*x))
 }
 
 fn far_away(p: Vec3) -> bool
@@ -37,10 +31,8 @@ fn any_far(bodies: usize, state: &[f32]) -> bool
     ensures { result ≡ any_far bodies state.now }
 {
     let mut far = false;
-    let mut i = 0;
-    while i < bodies {
-        far = far | far_away(vec3_in(state, BODY_NUMBERS * i));
-        i += 1;
+    for i in 0..bodies {
+        far = far | far_away(Vec3::read(state, BODY_NUMBERS * i));
     }
     far
 }

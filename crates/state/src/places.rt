@@ -3,8 +3,9 @@ ghost use Rattle.std.specs.Prelude.{◌≡◌, ◌+◌, ◌*◌, ◌≤◌, leng
 ghost use Rattle.std.proofs.lemmas.List.Edits.{sets};
 ghost use Rattle.state.specs.State.{body_numbers, joint_numbers, state_length, body_at, totals_at, numbers_of, totals_numbers};
 
-use numbers::{quat_in, vec3_in, write_quat, write_vec3};
+use numbers::Numbers;
 use solver_body::BodyState;
+use vector::{Quat, Vec3};
 use xpbd_joints::JointTotals;
 
 pub const BODY_NUMBERS: usize = 13;
@@ -19,16 +20,18 @@ pub fn state_length(bodies: usize, joints: usize) -> usize
     BODY_NUMBERS * bodies + JOINT_NUMBERS * joints
 }
 
+// Functions and no `Numbers` of a body and of totals: the trait and both types are of other crates.
+#[tactic(auto, unfolding(crate::specs::State::body_at))]
 pub fn body_at(state: &[f32], i: usize) -> BodyState
     requires { body_numbers * i + body_numbers ≤ length state.now }
     ensures { result ≡ body_at state.now i }
 {
     let at = BODY_NUMBERS * i;
     BodyState {
-        position: vec3_in(state, at),
-        rotation: quat_in(state, at + 3),
-        linear_velocity: vec3_in(state, at + 7),
-        angular_velocity: vec3_in(state, at + 10),
+        position: Vec3::read(state, at),
+        rotation: Quat::read(state, at + 3),
+        linear_velocity: Vec3::read(state, at + 7),
+        angular_velocity: Vec3::read(state, at + 10),
     }
 }
 
@@ -37,22 +40,23 @@ pub fn write_body(state: &mut [f32], i: usize, b: BodyState)
     ensures { state.new ≡ sets state.old (body_numbers * i) (numbers_of b) }
 {
     let at = BODY_NUMBERS * i;
-    write_vec3(state, at, b.position);
-    write_quat(state, at + 3, b.rotation);
-    write_vec3(state, at + 7, b.linear_velocity);
-    write_vec3(state, at + 10, b.angular_velocity);
+    b.position.write(state, at);
+    b.rotation.write(state, at + 3);
+    b.linear_velocity.write(state, at + 7);
+    b.angular_velocity.write(state, at + 10);
 }
 
+#[tactic(auto, unfolding(crate::specs::State::totals_at))]
 pub fn totals_at(state: &[f32], bodies: usize, j: usize) -> JointTotals
     requires { state_length bodies j + joint_numbers ≤ length state.now }
     ensures { result ≡ totals_at bodies state.now j }
 {
     let at = BODY_NUMBERS * bodies + JOINT_NUMBERS * j;
     JointTotals {
-        first: vec3_in(state, at),
-        second: vec3_in(state, at + 3),
-        third: vec3_in(state, at + 6),
-        fourth: vec3_in(state, at + 9),
+        first: Vec3::read(state, at),
+        second: Vec3::read(state, at + 3),
+        third: Vec3::read(state, at + 6),
+        fourth: Vec3::read(state, at + 9),
     }
 }
 
@@ -61,8 +65,8 @@ pub fn write_totals(state: &mut [f32], bodies: usize, j: usize, t: JointTotals)
     ensures { state.new ≡ sets state.old (state_length bodies j) (totals_numbers t) }
 {
     let at = BODY_NUMBERS * bodies + JOINT_NUMBERS * j;
-    write_vec3(state, at, t.first);
-    write_vec3(state, at + 3, t.second);
-    write_vec3(state, at + 6, t.third);
-    write_vec3(state, at + 9, t.fourth);
+    t.first.write(state, at);
+    t.second.write(state, at + 3);
+    t.third.write(state, at + 6);
+    t.fourth.write(state, at + 9);
 }

@@ -3,19 +3,18 @@ ghost use Rattle.std.specs.Prelude.{◌≡◌, ◌++◌, ◌+◌, ◌*◌, ◌�
 ghost use Rattle.card.specs.Format.{numbers_at, records_at};
 ghost use Rattle.card.specs.Card.{body, edition_of};
 ghost use Rattle.card.specs.Answer.{number_of};
-ghost use Rattle.card.specs.Parts.{Listed, sizes_of, card_with};
+ghost use Rattle.card.specs.Parts.{edition_number, sizes_of, card_with};
 ghost use Rattle.loader.specs.Linkage.{start_body};
 ghost use Rattle.state.specs.State.{body_numbers, answered, start_of};
 ghost use Rattle.state.specs.Parts.{start_numbers, start_in};
 
 use crate::places::{state_length, write_body};
-use card::answer::Answer;
-use card::bits::{bits8_at, quat_at, vec3_at};
+use card::bits::{quat_at, vec3_at};
 use card::checks::check;
-use card::edition::sizes_of;
+use card::edition::Edition;
 use card::layout::{ANGULAR_VELOCITY, BODY_BYTES, LINEAR_VELOCITY, POSITION, ROTATION};
 use card::records::header_bits;
-use numbers::clear;
+use card::refusal::Refusal;
 use solver_body::BodyState;
 
 // From the body's own part of the card.
@@ -36,42 +35,36 @@ fn write_bodies(card: &[u8], at: usize, bodies: usize, state: &mut [f32])
     requires { (at + 94 * bodies ≤ length card.now) × (body_numbers * bodies ≤ length state.old) }
     ensures { state.new ≡ start_numbers (records_at body card.now (8 * at) bodies) ++ drop (body_numbers * bodies) state.old }
 {
-    let mut i = 0;
-    while i < bodies {
+    for i in 0..bodies {
         let from = at + BODY_BYTES * i;
-        let b = start_body(&card[from..from + BODY_BYTES]);
-        write_body(state, i, b);
-        i += 1;
+        write_body(state, i, start_body(&card[from..from + BODY_BYTES]));
     }
 }
 
 fn start_accepted(
     card: &[u8],
-    edition: u32,
+    edition: Edition,
     bodies: usize,
     joints: usize,
     state: &mut [f32],
-) -> Answer
-    requires { Listed edition × (bodies ≤ 255) × (joints ≤ 255) × ((sizes_of edition).header_bytes + 94 * bodies ≤ length card.now) }
-    ensures { answered (number_of result) state.new ≡ start_in (card_with (edition_of edition) card.now bodies joints) state.old }
+) -> Result<(), Refusal>
+    requires { (bodies ≤ 255) × (joints ≤ 255) × ((sizes_of edition).header_bytes + 94 * bodies ≤ length card.now) }
+    ensures { answered (number_of result) state.new ≡ start_in (card_with (edition_of (edition_number edition)) card.now bodies joints) state.old }
 {
     if state.len() != state_length(bodies, joints) {
-        return Answer::StateLength;
+        return Err(Refusal::StateLength);
     }
-    clear(state);
-    write_bodies(card, sizes_of(edition).header_bytes, bodies, state);
-    Answer::Done
+    state.fill(0.0);
+    write_bodies(card, edition.sizes().header_bytes, bodies, state);
+    Ok(())
 }
 
 // A card or a state that is refused leaves the state as it was.
-pub fn start(card: &[u8], state: &mut [f32]) -> Answer
+pub fn start(card: &[u8], state: &mut [f32]) -> Result<(), Refusal>
     ensures { answered (number_of result) state.new ≡ start_of card.now state.old }
 {
-    let answer = check(card);
-    if answer.number() == 0 {
-        let edition = bits8_at(card, 0);
-        let h = header_bits(card, edition);
-        return start_accepted(card, edition, h.bodies, h.joints, state);
-    }
-    answer
+    let card = check(card)?;
+    let edition = Edition::of(card);
+    let h = header_bits(card.bytes, edition);
+    start_accepted(card.bytes, edition, h.bodies, h.joints, state)
 }

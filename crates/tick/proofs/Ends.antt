@@ -1,30 +1,25 @@
 -- The new state: its bodies one by one, its totals as the solve left them.
-use Prim.Native.Nat.{ℕ, zero, suc, ◌+◌, ◌≤◌, ◌<◌}
+use Prim.Native.Nat.{ℕ, zero, suc, ◌+◌, ◌≤◌}
 use native.Mathlib.Omega.{arith}
-use mathlib.Core.Path.{◌≡◌, refl, sym, ◌∙◌}
+use mathlib.Core.Path.{◌≡◌, refl, ◌∙◌}
 use mathlib.Core.Bool.{Bool, true, false}
 use mathlib.Core.List.{List, [], ◌∷◌, map}
 use lib.ListN.{length, get_or, replicate, length-map, length-set, get_or-replicate}
 use lib.Ieee.{Float, nan}
 use Rattle.scalar.specs.Arith.{f0}
 use Rattle.vector.specs.Vector.{origin}
-use Rattle.solver_body.specs.declared.BodyState.{BodyState}
-use Rattle.solver_body.specs.declared.RigidBody.{RigidBody}
 use Rattle.solver_body.specs.declared.SolverBody.{SolverBody}
 use Rattle.xpbd_joints.specs.Steps.{no_totals}
-use Rattle.tick.specs.Body.{finished_body}
 use Rattle.numbers.specs.Lists.{each, after}
 use Rattle.numbers.specs.Numbers.{vec3_in}
 use Rattle.numbers.proofs.Loops.{after_all}
 use Rattle.numbers.proofs.Rows.{each_is, each_length}
-use Rattle.loader.specs.Linkage.{LinkJoint, Linkage}
-use Rattle.loader.specs.declared.header.Header.{Header}
+use Rattle.loader.specs.Linkage.{Linkage}
+use Rattle.loader.specs.declared.joint.LinkJoint.{LinkJoint}
 use Rattle.state.specs.State.{state_length, body_at, totals_at, bad_numbers}
 use Rattle.state.proofs.Rows.{state_rows, state_length_lem}
-use Rattle.tick.specs.Tick.{Solved, body, rigid, pre_solve_of, solve_next, solve_pass, solved, new_body, new_state, stopped}
-use Rattle.tick.specs.Work.{solver_body_at, bodies_in, solved_in, outcome, StateOf}
-use Rattle.tick.proofs.SolverBodies.{body_in_lem}
-use Rattle.tick.proofs.Solving.{finite_outcome}
+use Rattle.tick.specs.Tick.{pre_solve_of, solve_next, solve_pass, solved_to, solved, new_body, new_state, stopped}
+use Rattle.tick.specs.Work.{solved_in}
 
 -- ---- totals of zero
 
@@ -49,39 +44,25 @@ totals_clear bodies m n e js ej =
       map_same no_totals js i,
     ))
 
-module _ (K : Linkage) (s : List Float) (h : Header) (nb : length K.bodies ≡ h.bodies) (nj : length K.joints ≡ h.joints) where
-  -- the solve, from where it begins
-  pub solved_is : (w t : List Float) {n : ℕ} → bodies_in h w ≡ pre_solve_of K s → t ≡ replicate n f0 → n ≡ state_length h.bodies h.joints → {σ : Solved}
-      → σ ≡ outcome (after (solve_next K s true) (solved_in h true w t) h.joints) → σ ≡ outcome (solved K s)
-  unfolding solve_pass
-  solved_is w t {n} ew et en e = e ∙ rw (ew, et, totals_clear h.bodies h.joints n en K.joints nj, nj)
+module _ (K : Linkage) (s : List Float) where
+  -- where the solve begins
+  pub solve_start : {w : List SolverBody} {t : List Float} (n : ℕ) → w ≡ pre_solve_of K s → t ≡ replicate n f0 → n ≡ state_length (length K.bodies) (length K.joints)
+      → solved_in K w t ≡ solved_to K s 0
+  unfolding solve_pass after
+  solve_start n ew et e = rw (ew, et, totals_clear (length K.bodies) (length K.joints) n e K.joints refl)
 
-  pub new_is : (i : ℕ) (pre bodies : List Float) → i < h.bodies → bodies_in h pre ≡ pre_solve_of K s → bodies_in h bodies ≡ (solved K s).bodies
-      → {a : Bool} → a ≡ (body K i).anchored → a ≡ false → {r : RigidBody} {p q : SolverBody} {dt : Float} {b : BodyState} → r ≡ rigid K s i → p ≡ solver_body_at pre i → q ≡ solver_body_at bodies i
-      → dt ≡ K.dt → b ≡ finished_body r p q dt → b ≡ new_body K s i
-  unfolding new_body
-  new_is i pre bodies k ep eb ea f er e₁ e₂ ed e =
-      let g : (body K i).anchored ≡ false = sym ea ∙ f in
-      rw g (e ∙ rw (er, e₁, e₂, ed, ← eb, ← ep, body_in_lem h pre i k, body_in_lem h bodies i k))
-
-  pub still_is : (i : ℕ) {a : Bool} → a ≡ (body K i).anchored → a ≡ true → {b : BodyState} → b ≡ body_at s i → b ≡ new_body K s i
-  unfolding new_body
-  still_is i ea t e = let g : (body K i).anchored ≡ true = sym ea ∙ t in rw g e
-
-  -- ---- what a tick answers
-
-  pub new_state_lem : (t : List Float) → StateOf h t → each (body_at t) h.bodies ≡ each (new_body K s) h.bodies → each (totals_at h.bodies t) h.joints ≡ (solved K s).totals
-      → t ≡ new_state K s
+  pub new_state_lem : (t : List Float) → length t ≡ state_length (length K.bodies) (length K.joints) → each (body_at t) (length K.bodies) ≡ each (new_body K s) (length K.bodies)
+      → each (totals_at (length K.bodies) t) (length K.joints) ≡ (solved K s).totals → t ≡ new_state K s
   unfolding new_state
-  new_state_lem t e eb et = state_rows t h.bodies h.joints e ∙ rw (eb, et, nb)
+  new_state_lem t e eb et = state_rows t (length K.bodies) (length K.joints) e ∙ rw (eb, et)
 
-  pub tick_stops : (σ : Solved) → σ.finite ≡ false → outcome σ ≡ outcome (solved K s) → true ≡ stopped K s
+  pub stops : (solved K s).finite ≡ false → stopped K s ≡ true
   unfolding stopped
-  tick_stops σ f e = let g : (solved K s).finite ≡ false = sym (finite_outcome σ (solved K s) e) ∙ f in rw g
+  stops e = rw e
 
-  pub tick_goes : (σ : Solved) → σ.finite ≡ true → outcome σ ≡ outcome (solved K s) → {t : List Float} → t ≡ new_state K s → {r : Bool} → r ≡ bad_numbers h.bodies t → r ≡ stopped K s
+  pub ends : (solved K s).finite ≡ true → {t : List Float} → t ≡ new_state K s → {b : Bool} → b ≡ bad_numbers (length K.bodies) t → stopped K s ≡ b
   unfolding stopped
-  tick_goes σ f e et er = let g : (solved K s).finite ≡ true = sym (finite_outcome σ (solved K s) e) ∙ f in rw (g, nb, er, et)
+  ends e et eb = rw (e, eb, et)
 
 -- ---- the new state's length
 

@@ -1,8 +1,6 @@
 pub mod All
-pub mod Results
-pub mod SolverBodies
-pub mod Loading
 pub mod Turning
+pub mod Lengths
 pub mod Turns
 pub mod Solving
 pub mod Ends

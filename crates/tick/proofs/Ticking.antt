@@ -1,6 +1,6 @@
 -- Ticks in a row: a run of a card and a state that no check refuses is the ticks of its linkage.
 use Rattle.std.specs.Prelude.{if◌then◌else◌}
-use Prim.Native.Nat.{ℕ, zero, suc, ◌+◌, ◌≤◌, ◌<◌}
+use Prim.Native.Nat.{ℕ, zero, suc, ◌+◌, ◌<◌}
 use native.Mathlib.Omega.{arith}
 use mathlib.Core.Path.{◌≡◌, refl, sym, ap, ◌∙◌}
 use mathlib.Core.Bool.{Bool, true, false, not, ◌||◌}
@@ -8,7 +8,7 @@ use mathlib.Core.List.{List, [], ◌∷◌, ◌++◌}
 use lib.ListN.{length, length-map}
 use lib.Dec.{eqb}
 use lib.Ieee.{Float}
-use borrow.Author.Tests.{eq-eqb, ne_eqb, le-ltb, lt-ltb}
+use borrow.Author.Tests.{eq-eqb, ne_eqb, lt-ltb}
 use Rattle.numbers.specs.Lists.{after}
 use Rattle.numbers.proofs.Loops.{after_none, after_more, after_kept}
 use Rattle.card.specs.Card.{edition_at, card_of}
@@ -37,22 +37,16 @@ module _ (K : Linkage) (s₀ : List Float) where
     unfolding ticks_of ticks_next
     turn = sym (after_more (ticks_next K) (ran 0 0 s₀) i ∙ rw (← inv))
 
-    pub ticks_more : {L : Linkage} → L ≡ turned_linkage K s → stopped L s ≡ false → {t : List Float} → t ≡ new_state L s → ran 0 (i + 1) t ≡ ticks_of K s₀ (i + 1)
-    ticks_more eL f e = rw (← eL, f, ← e) at turn
+    pub ticks_more : stopped (turned_linkage K s) s ≡ false → {t : List Float} → t ≡ new_state (turned_linkage K s) s → ran 0 (i + 1) t ≡ ticks_of K s₀ (i + 1)
+    ticks_more f e = rw (f, ← e) at turn
 
-    pub ticks_stop : {L : Linkage} → L ≡ turned_linkage K s → {n : ℕ} → i < n → stopped L s ≡ true → ran 13 i s ≡ ticks_of K s₀ n
+    pub ticks_stop : {n : ℕ} → i < n → stopped (turned_linkage K s) s ≡ true → ran 13 i s ≡ ticks_of K s₀ n
     unfolding ticks_of ticks_next
-    ticks_stop eL {n} h f =
-        let here : ran 13 i s ≡ ticks_of K s₀ (i + 1) = rw (← eL, f) at turn in
+    ticks_stop {n} h f =
+        let here : ran 13 i s ≡ ticks_of K s₀ (i + 1) = rw f at turn in
         here ∙ sym (after_kept (ticks_next K) (ran 0 0 s₀) (i + 1) n (omega arith) (λ m. rw (← here)))
 
-  pub ticks_done : {i n : ℕ} {s : List Float} → ran 0 i s ≡ ticks_of K s₀ i → i ≤ n → n ≤ i → ran_to n i s ≡ ticks_of K s₀ n
-  ticks_done {i} {n} {s} inv a b = let q : n ≡ i = omega arith in rw (q, le-ltb i i (omega arith)) inv
-
--- how many of them were done
-pub done_all : {r n : ℕ} (s : List Float) → n ≤ r → ran_to n r s ≡ ran 0 r s
-done_all {r} {n} s h = rw (le-ltb r n h)
-
+-- not all of them were done
 pub done_some : {r n : ℕ} (s : List Float) → r < n → ran_to n r s ≡ ran 13 r s
 done_some {r} {n} s h = rw (lt-ltb r n h)
 
@@ -257,18 +251,6 @@ module _ (card : List ℕ) (s : List Float) where
 
   pub tick_is : {k : ℕ} {t : List Float} {n : ℕ} → ran k n t ≡ run_of card s 1 → answered k t ≡ tick_of card s
   tick_is e = ap (λ (r : Ran). answered r.number r.state) e ∙ one_by (first_of (start_checks card s)) refl
-
--- ---- ticks on a copy of the state
-
-module _ {K L : Linkage} (eK : K ≡ L) {c s : List Float} (ec : c ≡ s) (n r : ℕ) (t : List Float) (e : ran_to n r t ≡ ticks_of K c n) where
-  same : ran_to n r t ≡ ticks_of L s n
-  same = rw (← eK, ← ec) e
-
-  pub copy_stops : r < n → ran 13 r s ≡ all_or_nothing s (ticks_of L s n)
-  copy_stops h = ap (all_or_nothing s) (sym (done_some t h) ∙ same)
-
-  pub copy_done : n ≤ r → {u : List Float} → u ≡ t → ran 0 r u ≡ all_or_nothing s (ticks_of L s n)
-  copy_done h eu = ap (ran 0 r) eu ∙ ap (all_or_nothing s) (sym (done_all t h) ∙ same)
 
 -- ---- an accepted card's counts
 

@@ -1,79 +1,83 @@
--- The bodies' steps: the load fills every place, and a joint without a motor warms nothing.
+-- A body and a joint as the code reads them, and a joint without a motor, which warms nothing.
 use Rattle.std.specs.Prelude.{if◌then◌else◌}
-use Prim.Native.Nat.{ℕ, zero, suc, ◌≤◌, ◌<◌}
-use native.Mathlib.Omega.{arith}
+use Prim.Native.Nat.{ℕ, ◌<◌}
 use mathlib.Core.Path.{◌≡◌, refl, sym, ap, ◌∙◌}
 use mathlib.Core.Bool.{Bool, true, false}
-use mathlib.Core.List.{List}
-use lib.ListN.{length, get_or, set, replicate, length-replicate, get_or-replicate}
+use mathlib.Core.List.{List, []}
+use lib.ListN.{length, get_or, set}
 use lib.Seq.{set-get_or}
 use lib.Ieee.{Float}
 use Rattle.joints.specs.declared.Joint.{Joint}
 use Rattle.joints.specs.declared.Joint.TheVariants.{Fixed, Revolute, Prismatic, Spherical, Distance}
-use Rattle.solver_body.specs.Body.{solver_body_of, dummy_body}
+use Rattle.solver_body.specs.Body.{dummy_body}
 use Rattle.solver_body.specs.declared.RigidBody.{RigidBody}
 use Rattle.solver_body.specs.declared.SolverBody.{SolverBody}
+use Rattle.solver_body.specs.declared.SolverBodyInertia.{SolverBodyInertia}
 use Rattle.solver_body.specs.declared.BodyPair.{BodyPair}
 use Rattle.xpbd_joints.specs.Revolute.{revolute_warmed}
 use Rattle.xpbd_joints.specs.Prismatic.{prismatic_warmed}
 use Rattle.xpbd_joints.specs.Stage.{Setting}
 use Rattle.xpbd_joints.specs.Steps.{steps_of, warmed}
 use Rattle.xpbd_joints.specs.declared.JointTotals.{JointTotals}
-use Rattle.tick.specs.Body.{integrated}
-use Rattle.numbers.specs.Lists.{each, after}
-use Rattle.numbers.proofs.Loops.{after_done}
-use Rattle.numbers.proofs.Rows.{fill, fill_past, fill_each}
-use Rattle.loader.specs.Linkage.{Linkage}
-use Rattle.loader.specs.Parts.{driven, linkage_in}
-use Rattle.loader.specs.Parts as loader
+use Rattle.std.proofs.lemmas.List.{get_or_default}
+use Rattle.loader.specs.Linkage.{Linkage, body_of, joint_of}
+use Rattle.loader.specs.Linked.{Tied}
 use Rattle.loader.specs.declared.body.LinkBody.{LinkBody}
-use Rattle.loader.specs.declared.header.Header.{Header}
-use Rattle.state.specs.State.{body_at}
-use Rattle.tick.specs.Tick.{body, joint, put, integrated_at, pair, put_pair, loaded, steps, warm_start_next}
-use Rattle.tick.specs.Work.{solver_body_at, bodies_in, loaded_body}
-use Rattle.tick.proofs.Loading.{body_at_lem}
-use Rattle.tick.proofs.SolverBodies.{body_in_lem}
+use Rattle.loader.specs.declared.joint.LinkJoint.{LinkJoint}
+use Rattle.solver_body.specs.declared.BodyState.{BodyState}
+use Rattle.state.specs.State.{totals_at}
+use Rattle.tick.specs.Body.{integrated, finished_body}
+use Rattle.tick.proofs.Lengths.{pre_solve_length, solved_length}
+use Rattle.tick.specs.Tick.{Solved, body, joint, put, pair, put_pair, integrated_at, rigid, steps, warmed_by, warm_start_next, solved_by, pre_solve_of, solved, new_body}
+use Rattle.tick.specs.Parts.{joint_warmed, joint_solved}
+use Rattle.tick.specs.declared.joint.JointResult.{JointResult}
+use Rattle.tick.specs.Work.{driven, result_at}
 
--- ---- the load
+-- ---- a body
 
-fill_as : (a : Bool) (i : ℕ) (l : List SolverBody) (b : SolverBody) → get_or l i dummy_body ≡ dummy_body
-    → (if a then l else set l i b) ≡ set l i (if a then dummy_body else b)
-fill_as true i l b e = sym (ap (λ d. set l i d) (sym e) ∙ set-get_or l i dummy_body)
-fill_as false i l b e = refl
+module _ (K : Linkage) (i : ℕ) (h : i < length K.bodies) where
+  pub anchored_is : (d : LinkBody) {a : Bool} → (get_or K.bodies i d).anchored ≡ a → (body K i).anchored ≡ a
+  anchored_is d e = rw (get_or_default K.bodies i d (body_of []) h) at e
 
-module _ (K : Linkage) (s : List Float) where
-  abbrev load_next : ℕ → List SolverBody → List SolverBody
-  load_next i l = put K i (solver_body_of (body_at s i)) l
+  pub integrated_is : (l : List SolverBody) → i < length l → {j : SolverBodyInertia} → j ≡ (body K i).inertia → (d : SolverBody) {b : SolverBody}
+      → b ≡ integrated (get_or l i d) j K.gravity K.dt → b ≡ integrated_at K i (get_or l i dummy_body)
+  integrated_is l k ej d e = e ∙ rw (ej, get_or_default l i d dummy_body k)
 
-  load_fills : (m n : ℕ) → n ≤ m → after load_next (replicate m dummy_body) n ≡ after (fill (loaded_body K s)) (replicate m dummy_body) n
-  unfolding after loaded_body
-  load_fills m zero h = refl
-  load_fills m (suc n) h =
-      let blank = replicate m dummy_body in
-      ap (λ l. load_next n l) (load_fills m n (omega arith))
-      ∙ fill_as (body K n).anchored n (after (fill (loaded_body K s)) blank n) (solver_body_of (body_at s n))
-      (fill_past (loaded_body K s) blank dummy_body n n (omega arith) ∙ get_or-replicate m n dummy_body dummy_body (omega arith))
+  pub finished_is : (s : List Float) {pre bodies : List SolverBody} → pre ≡ pre_solve_of K s → bodies ≡ (solved K s).bodies → (body K i).anchored ≡ false → {r : RigidBody} → r ≡ rigid K s i → (d d' : SolverBody) {b : BodyState}
+      → b ≡ finished_body r (get_or pre i d) (get_or bodies i d') K.dt → b ≡ new_body K s i
+  unfolding new_body
+  finished_is s {pre} {bodies} ep eb f er d d' e =
+      let room : i < length pre = rw (ep, pre_solve_length K s) h in
+      let room' : i < length bodies = rw (eb, solved_length K s) h in
+      e ∙ rw (f, get_or_default pre i d dummy_body room, get_or_default bodies i d' dummy_body room', ep, eb, er)
 
-  loaded_is : loaded K s ≡ each (loaded_body K s) (length K.bodies)
-  unfolding loaded
-  loaded_is =
-      let n = length K.bodies in
-      load_fills n n (omega arith) ∙ fill_each (loaded_body K s) (replicate n dummy_body) dummy_body n (length-replicate n dummy_body)
+-- ---- a joint
 
-  pub loaded_done : (l : List SolverBody) {i n : ℕ} {bodies : List SolverBody} → length K.bodies ≡ n → length l ≡ n
-      → bodies ≡ after (fill (loaded_body K s)) l i → i ≤ n → n ≤ i → bodies ≡ loaded K s
-  loaded_done l {i} {n} en el e a b =
-      after_done (fill (loaded_body K s)) l e a b ∙ fill_each (loaded_body K s) l dummy_body n el ∙ ap (λ (m : ℕ). each (loaded_body K s) m) (sym en) ∙ sym loaded_is
+module _ (K : Linkage) (s : List Float) (j : ℕ) (h : j < length K.joints) (t : Tied K.bodies K.joints) (d : LinkJoint) where
+  abbrev k : LinkJoint
+  k = get_or K.joints j d
 
--- ---- gravity, the locks and the deltas
+  joint_is : k ≡ joint K j
+  joint_is = get_or_default K.joints j d (joint_of []) h
 
-pub integrate_is : (h : Header) (w : List ℕ) (f : List Float) (i : ℕ) → i < h.bodies → (bodies : List Float) {x : LinkBody} → x ≡ loader.body_at h w f i
-    → {p q : SolverBody} → p ≡ solver_body_at bodies i → q ≡ integrated p x.inertia h.gravity h.dt → q ≡ integrated_at (linkage_in h w f) i (get_or (bodies_in h bodies) i dummy_body)
-unfolding linkage_in
-integrate_is h w f i k bodies {x} ex ep eq =
-    let ex' = body_at_lem h w f i k ex in eq ∙ rw (ex', ep, body_in_lem h bodies i k)
+  pub first_below : k.body1 < length K.bodies
+  first_below = rw joint_is (t.first j h)
 
--- ---- joints without a motor
+  pub second_below : k.body2 < length K.bodies
+  second_below = rw joint_is (t.second j h)
+
+  pub undriven : driven k.joint ≡ false → driven (joint K j).joint ≡ false
+  undriven e = rw joint_is at e
+
+  module _ (l : List SolverBody) {r₁ r₂ : RigidBody} {b : BodyPair} {i₁ i₂ : SolverBodyInertia} (e₁ : r₁ ≡ rigid K s k.body1) (e₂ : r₂ ≡ rigid K s k.body2) (eb : b ≡ pair K j l)
+      (ei₁ : i₁ ≡ (body K k.body1).inertia) (ei₂ : i₂ ≡ (body K k.body2).inertia) where
+    pub warm_is : {last : JointTotals} → last ≡ totals_at (length K.bodies) s j → {p : BodyPair} → p ≡ joint_warmed k.joint r₁ r₂ last b i₁ i₂ K.warm_coefficient K.dt → p ≡ warmed_by K s j l
+    unfolding joint_warmed steps
+    warm_is el e = e ∙ rw (e₁, e₂, el, eb, ei₁, ei₂, joint_is)
+
+    pub solve_is : {r : JointResult} → r ≡ joint_solved k.joint r₁ r₂ b i₁ i₂ K.dt → (σ : Solved) → σ.bodies ≡ l → r ≡ result_at K s j (solved_by K s true j σ)
+    unfolding joint_solved steps
+    solve_is e σ eσ = e ∙ rw (e₁, e₂, eb, ei₁, ei₂, joint_is, eσ)
 
 unwarmed : (joint : Joint) → driven joint ≡ false → (S : Setting) (c : Float) (last : JointTotals) (r₁ r₂ : RigidBody) (b : BodyPair) → warmed S c last (steps_of joint r₁ r₂) b ≡ b
 unfolding driven warmed steps_of revolute_warmed prismatic_warmed

@@ -7,7 +7,7 @@ use Rattle.vector.specs.Rotation.{vector_part, product_of, inverse_of, turn_of, 
 use Rattle.vector.specs.Matrix.{turned_tensor}
 use Rattle.vector.specs.declared.Vec3.{Vec3}
 use Rattle.vector.specs.declared.Quat.{Quat}
-use Rattle.solver_body.specs.Body.{unlocked}
+use Rattle.solver_body.specs.Body.{unlocked_axes}
 use Rattle.solver_body.specs.declared.BodyState.{BodyState}
 use Rattle.solver_body.specs.declared.RigidBody.{RigidBody}
 use Rattle.solver_body.specs.declared.SolverBody.{SolverBody}
@@ -32,8 +32,7 @@ unfoldable pub integrated : SolverBody → SolverBodyInertia → Float → Float
 integrated b i g h =
     let v = b.linear_velocity in
     let ω = b.angular_velocity in
-    let y = unlocked i.translation_y_locked (v.y ⊕ g ⊗ h) in
-    let u : Vec3 = record { x = unlocked i.translation_x_locked v.x; y = y; z = unlocked i.translation_z_locked v.z } in
+    let u = unlocked_axes i (record { x = v.x; y = v.y ⊕ g ⊗ h; z = v.z }) in
     record { linear_velocity = u; angular_velocity = ω; delta_position = scale_of u h; delta_rotation = of_scaled_axis (scale_of ω h) }
 
 -- ω = 2 Δq.xyz / h, negated where Δq.w < 0

@@ -7,7 +7,7 @@ use Rattle.vector.specs.declared.Vec3.{Vec3}
 use Rattle.vector.specs.declared.Quat.{Quat}
 use Rattle.vector.specs.declared.SymmetricTensor.{SymmetricTensor}
 use Rattle.joints.specs.declared.Joint.{Joint}
-use Rattle.solver_body.specs.Body.{unlocked, with_velocity}
+use Rattle.solver_body.specs.Body.{with_velocity}
 use Rattle.solver_body.specs.declared.RigidBody.{RigidBody}
 use Rattle.solver_body.specs.declared.SolverBody.{SolverBody}
 use Rattle.solver_body.specs.declared.SolverBodyInertia.{SolverBodyInertia}
@@ -24,15 +24,6 @@ use Rattle.tick.specs.Joint.{arm_numbers, prepared_numbers, solver_numbers, look
 use Rattle.tick.specs.declared.joint.JointResult.{JointResult}
 
 -- ---- a body
-
--- locked linear velocities are zero
-unfoldable pub unlocked_velocity : SolverBodyInertia → Vec3 → Vec3
-unlocked_velocity i v =
-    record {
-      x = unlocked i.translation_x_locked v.x;
-      y = unlocked i.translation_y_locked v.y;
-      z = unlocked i.translation_z_locked v.z;
-    }
 
 -- v + (x - x₀) / h, with x₀ as it was before the joints' solve
 unfoldable pub linear_projected : SolverBody → Vec3 → Float → SolverBody

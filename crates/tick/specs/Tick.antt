@@ -10,8 +10,9 @@ use Rattle.xpbd_joints.specs.Stage.{Setting}
 use Rattle.xpbd_joints.specs.Steps.{no_totals, Step, steps_of, Run, run, Event, events, warmed}
 use Rattle.xpbd_joints.specs.declared.JointTotals.{JointTotals}
 use Rattle.numbers.specs.Lists.{all, each, after}
-use Rattle.loader.specs.Linkage.{LinkJoint, Linkage, body_of, joint_of}
+use Rattle.loader.specs.Linkage.{Linkage, body_of, joint_of}
 use Rattle.loader.specs.declared.body.LinkBody.{LinkBody}
+use Rattle.loader.specs.declared.joint.LinkJoint.{LinkJoint}
 use Rattle.state.specs.State.{body_at, totals_at, state_of, bad_numbers}
 use Rattle.tick.specs.Body.{turned_body, integrated, finished_body}
 use Rattle.tick.specs.Joint.{looked_at}

@@ -2,10 +2,10 @@
 #![tactic(auto)]
 
 pub mod body;
+mod constraint;
 pub mod finite;
 pub mod joint;
 mod linked;
 pub mod run;
 mod steps;
 mod turn;
-mod work;

@@ -6,9 +6,8 @@ use Rattle.scalar.specs.Scalar.{is_finite}
 use Rattle.scalar.specs.Arith.{f0, pi}
 use Rattle.trig.specs.Arctangent.{atan_of, quadrant_angle, half_plane_angle, angle_of, atan2_of, half_pi}
 use Rattle.trig.specs.Accuracy.{QuadrantWithin, Atan2Within}
-use Rattle.scalar.proofs.Sizes.{neg-neg, abs_round}
+use Rattle.scalar.proofs.Sizes.{neg-neg, abs_is_zero, abs_round}
 use Rattle.trig.proofs.SmallerOverLarger.{div_is, at_most_one, above, beside}
-use Rattle.trig.proofs.Atan2Cases.{point, off_origin}
 use Rattle.trig.proofs.SmallArctangent.{Arctan}
 use Rattle.trig.proofs.QuotientArctangent.{quotient_value}
 use Rattle.trig.proofs.QuadrantsWithin.{flat, steep, left, both}
@@ -59,14 +58,14 @@ module _ (m : ℕ) (e : ℤ) (n : ℕ) (d : ℤ) (some : (eq (fin false m e) f0 
 
 -- finite y and x, not both zero
 pub atan2_within : (y x : Float) → is_finite y ≡ true → is_finite x ≡ true → (eq y f0 && eq x f0) ≡ false → Atan2Within y x (atan2_of y x)
-unfolding is_finite lt angle_of half_plane_angle quadrant_angle
+unfolding is_finite lt atan2_of angle_of half_plane_angle quadrant_angle
 atan2_within nan x h k s = absurd (subst T (sym h) tt)
 atan2_within (inf t) x h k s = absurd (subst T (sym h) tt)
 atan2_within (fin t m e) nan h k s = absurd (subst T (sym k) tt)
 atan2_within (fin t m e) (inf u) h k s = absurd (subst T (sym k) tt)
 atan2_within (fin t m e) (fin u n d) h k s =
-    subst (λ (r : Float). QuadrantWithin (lt (fin false n d) (fin false m e)) (lt (fin u n d) f0) (m * up e * down d) (n * up d * down e) (cond t (neg r) r)) (off_origin (fin t m e) (fin u n d) refl s)
-    (subst (λ (r : Float). QuadrantWithin (lt (fin false n d) (fin false m e)) (lt (fin u n d) f0) (m * up e * down d) (n * up d * down e) r) (turn t (half_plane_angle (fin false m e) (fin u n d))) (quadrant m e n d (point (fin t m e) (fin u n d) refl s).some (lt (fin u n d) f0) (lt (fin false n d) (fin false m e)) refl))
+    rw s
+    (subst (λ (r : Float). QuadrantWithin (lt (fin false n d) (fin false m e)) (lt (fin u n d) f0) (m * up e * down d) (n * up d * down e) r) (turn t (half_plane_angle (fin false m e) (fin u n d))) (quadrant m e n d (rw (abs_is_zero (fin t m e), abs_is_zero (fin u n d)) s) (lt (fin u n d) f0) (lt (fin false n d) (fin false m e)) refl))
   where
     turn : (t : Bool) (r : Float) → r ≡ cond t (neg (cond t (neg r) r)) (cond t (neg r) r)
     turn true r = sym (neg-neg r)

@@ -4,7 +4,6 @@ pub mod CarriedNeighbours
 pub mod ScaledFloor
 pub mod WholeOverUnit
 pub mod SmallerOverLarger
-pub mod Atan2Cases
 pub mod NearValue
 pub mod SmallPowers
 pub mod SmallSineWithin

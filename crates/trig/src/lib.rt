@@ -1,10 +1,10 @@
 // Sine, cosine, arctangent and arc sine of an f32, by two tables of 1,025 whole numbers.
 #![tactic(auto)]
 
-ghost use Rattle.std.specs.Prelude.{◌≡◌, ◌+◌, ◌<◌, ◌≤◌, ◌&&◌, T, pos};
-ghost use Rattle.std.specs.Float.Ieee.{le, eq};
-ghost use Rattle.scalar.specs.Arith.{f0, f1};
-ghost use Rattle.scalar.specs.Scalar.{abs_of, is_finite};
+ghost use Rattle.std.specs.Prelude.{◌≡◌, ◌+◌, ◌<◌, ◌≤◌, T, pos};
+ghost use Rattle.std.specs.Float.Ieee.{le};
+ghost use Rattle.scalar.specs.Arith.{f1};
+ghost use Rattle.scalar.specs.Scalar.{abs_of};
 ghost use Rattle.trig.specs.Interpolation.{interpolated, over_unit};
 ghost use Rattle.trig.specs.Sine.{sixteen, scaled_of, step_of, fraction_of, table_sine, sin_in_reach, cos_in_reach, sin_of, cos_of};
 ghost use Rattle.trig.specs.Arctangent.{atan_at, atan_of, quadrant_angle, half_plane_angle, angle_of, atan2_of, within_one, asin_of};
@@ -39,14 +39,11 @@ fn over_unit(negative: bool, m: u32) -> f32
     ensures { result ≡ over_unit (signed negative m) }
 {
     let v = m as f32 / 16777216.0;
-    if negative {
-        if m == 0 { v } else { -v }
-    } else {
-        v
-    }
+    if negative && m > 0 { -v } else { v }
 }
 
 // floor(x·2^24) of a size.
+#[tactic(auto, using(crate::proofs::ScaledFloor::scales), unfolding(crate::specs::Sine::scaled_of))]
 fn scaled(x: f32) -> u64
     requires { (T (le x sixteen)) × (x ≡ abs_of x) }
     ensures { (result ≡ scaled_of x) × (result ≤ 268435456) }
@@ -61,6 +58,7 @@ struct Sizes {
     falling: u32,
 }
 
+#[tactic(auto, using(crate::proofs::CarriedTable::sine_small))]
 fn quarter(i: usize, f: u64) -> Sizes
     requires { (i < 1024) × (f < 65536) }
     ensures { QuarterAt i f result.rising result.falling }
@@ -83,32 +81,28 @@ fn table_sin_cos(q: u64) -> SinCos
 {
     let s = q / 65536 % 4096;
     let w = quarter((s % 1024) as usize, q % 65536);
-    let quadrant = s / 1024;
-    if quadrant == 0 {
-        return SinCos {
+    match s / 1024 {
+        0 => SinCos {
             sin: over_unit(false, w.rising),
             cos: over_unit(false, w.falling),
-        };
-    }
-    if quadrant == 1 {
-        return SinCos {
+        },
+        1 => SinCos {
             sin: over_unit(false, w.falling),
             cos: over_unit(true, w.rising),
-        };
-    }
-    if quadrant == 2 {
-        return SinCos {
+        },
+        2 => SinCos {
             sin: over_unit(true, w.rising),
             cos: over_unit(true, w.falling),
-        };
-    }
-    SinCos {
-        sin: over_unit(true, w.falling),
-        cos: over_unit(false, w.rising),
+        },
+        _ => SinCos {
+            sin: over_unit(true, w.falling),
+            cos: over_unit(false, w.rising),
+        },
     }
 }
 
 // Of an angle of at most 16 in size.
+#[tactic(auto, unfolding(crate::specs::Sine::sin_in_reach, crate::specs::Sine::cos_in_reach, crate::specs::Sine::sin_small, crate::specs::Sine::cos_small))]
 pub fn sin_cos_in_reach(a: f32) -> SinCos
     requires { T (le (abs_of a) sixteen) }
     ensures { (result.sin ≡ sin_in_reach a) × (result.cos ≡ cos_in_reach a) }
@@ -125,14 +119,12 @@ pub fn sin_cos_in_reach(a: f32) -> SinCos
     // Two calls, so that the compiler keeps the table out of line and puts the small angles into each caller.
     if a < 0.0 {
         let w = table_sin_cos(q);
-        return SinCos {
-            sin: -w.sin,
-            cos: w.cos,
-        };
+        return SinCos { sin: -w.sin, ..w };
     }
     table_sin_cos(q)
 }
 
+#[tactic(auto, using(laws::proofs::Quotient::zero_over_zero), unfolding(crate::specs::Sine::sin_of, crate::specs::Sine::cos_of))]
 pub fn sin_cos(a: f32) -> SinCos
     ensures { (result.sin ≡ sin_of a) × (result.cos ≡ cos_of a) }
 {
@@ -158,6 +150,7 @@ fn atan_at(k: u64) -> u32
 }
 
 // The arctangent of a number from 0 to 1.
+#[tactic(auto, using(crate::proofs::ScaledFloor::one_sixteen), unfolding(crate::specs::Arctangent::atan_of, crate::specs::Arctangent::atan_small))]
 fn atan(t: f32) -> f32
     requires { (T (le t f1)) × (t ≡ abs_of t) }
     ensures { result ≡ atan_of t }
@@ -170,6 +163,7 @@ fn atan(t: f32) -> f32
 }
 
 // The angle of the point (w, h), both sizes.
+#[tactic(auto, unfolding(crate::specs::Arctangent::quadrant_angle))]
 fn quadrant_angle(h: f32, w: f32) -> f32
     requires { Point h w }
     ensures { result ≡ quadrant_angle h w }
@@ -182,6 +176,7 @@ fn quadrant_angle(h: f32, w: f32) -> f32
 }
 
 // The angle of the point (x, h), h a size.
+#[tactic(auto, unfolding(crate::specs::Arctangent::half_plane_angle))]
 fn half_plane_angle(h: f32, x: f32) -> f32
     requires { Point h (abs_of x) }
     ensures { result ≡ half_plane_angle h x }
@@ -191,6 +186,7 @@ fn half_plane_angle(h: f32, x: f32) -> f32
 }
 
 // The angle of the point (x, y), finite and not the origin.
+#[tactic(auto, unfolding(crate::specs::Arctangent::angle_of))]
 fn angle(y: f32, x: f32) -> f32
     requires { Point (abs_of y) (abs_of x) }
     ensures { result ≡ angle_of y x }
@@ -199,48 +195,32 @@ fn angle(y: f32, x: f32) -> f32
     if is_sign_negative(y) { -r } else { r }
 }
 
-fn both_finite(y: f32, x: f32) -> bool
-    ensures { result ≡ (is_finite y && is_finite x) }
-{
-    if is_finite(y) {
-        return is_finite(x);
-    }
-    false
-}
-
-fn both_zero(y: f32, x: f32) -> bool
-    ensures { result ≡ (eq y f0 && eq x f0) }
-{
-    if y == 0.0 {
-        return x == 0.0;
-    }
-    false
-}
-
+#[tactic(auto, using(laws::proofs::Quotient::zero_over_zero), unfolding(crate::specs::Arctangent::atan2_of))]
 pub fn atan2(y: f32, x: f32) -> f32
     ensures { result ≡ atan2_of y x }
 {
-    if !both_finite(y, x) {
+    if !is_finite(y) || !is_finite(x) {
         return 0.0 / 0.0;
     }
-    if both_zero(y, x) {
+    if y == 0.0 && x == 0.0 {
         return 0.0;
     }
     angle(y, x)
 }
 
 // An arc sine's argument: a finite number above 1 in size is read as 1 with its sign.
+#[tactic(auto, unfolding(crate::specs::Arctangent::within_one))]
 fn within_one(v: f32) -> f32
     ensures { result ≡ within_one v }
 {
-    if abs(v) > 1.0 {
-        if is_finite(v) {
-            return if v < 0.0 { -1.0 } else { 1.0 };
-        }
+    if abs(v) > 1.0 && is_finite(v) {
+        if v < 0.0 { -1.0 } else { 1.0 }
+    } else {
+        v
     }
-    v
 }
 
+#[tactic(auto, unfolding(crate::specs::Arctangent::asin_of))]
 pub fn asin(v: f32) -> f32
     ensures { result ≡ asin_of v }
 {

@@ -17,9 +17,8 @@ use Rattle.xpbd.specs.Angular.{angular_inverse_mass, angular_impulse_applied}
 use Rattle.xpbd.specs.FixedAngle.{rotation_difference_of}
 use Rattle.xpbd.specs.declared.angular_constraint.Corrected.{Corrected}
 use Rattle.xpbd.specs.declared.point_constraint.PointConstraintShared.{PointConstraintShared}
-use Rattle.xpbd.specs.declared.point_constraint.PointSolved.{PointSolved}
+use Rattle.xpbd.specs.declared.Solved.{Solved}
 use Rattle.xpbd.specs.declared.fixed_angle_constraint.FixedAngleConstraintShared.{FixedAngleConstraintShared}
-use Rattle.xpbd.specs.declared.fixed_angle_constraint.FixedAngleSolved.{FixedAngleSolved}
 
 abbrev pub pair : SolverBody → SolverBody → BodyPair
 pair b₁ b₂ = record { body1 = b₁; body2 = b₂ }
@@ -52,10 +51,10 @@ aligned b I₁ I₂ d α h =
     then record { bodies = b; lagrange = origin }
     else record { bodies = angular_impulse_applied b I₁ I₂ (scale_of n (neg Δλ)); lagrange = scale_of n Δλ }
 
-abbrev pub point_corrected : PointConstraintShared → Corrected → PointSolved
+abbrev pub point_corrected : PointConstraintShared → Corrected → Solved PointConstraintShared
 point_corrected k s =
     record {
-      constraint =
+      solver_data =
           record {
             world_r1 = k.world_r1;
             world_r2 = k.world_r2;
@@ -66,24 +65,24 @@ point_corrected k s =
     }
 
 -- the error is the length of the separation s, the direction -s / |s|; nothing is done where s · s is zero
-unfoldable pub point_solved : PointConstraintShared → BodyPair → SolverBodyInertia → SolverBodyInertia → Float → Float → PointSolved
+unfoldable pub point_solved : PointConstraintShared → BodyPair → SolverBodyInertia → SolverBodyInertia → Float → Float → Solved PointConstraintShared
 point_solved k b i₁ i₂ α h =
     let r₁ = turn_of b.body1.delta_rotation k.world_r1 in
     let r₂ = turn_of b.body2.delta_rotation k.world_r2 in
     let s = separation_of b.body1.delta_position b.body2.delta_position r₁ r₂ k.center_difference in
     let c = length_of s in
     if eq (length_squared_of s) f0
-    then record { constraint = k; bodies = b }
+    then record { solver_data = k; bodies = b }
     else point_corrected k (position_corrected b i₁ i₂ r₁ r₂ (div_of (neg_of s) c) c α h)
 
-abbrev pub angle_corrected : FixedAngleConstraintShared → Corrected → FixedAngleSolved
+abbrev pub angle_corrected : FixedAngleConstraintShared → Corrected → Solved FixedAngleConstraintShared
 angle_corrected k s =
     record {
-      constraint = record { rotation_difference = k.rotation_difference; total_lagrange = add_of k.total_lagrange s.lagrange };
+      solver_data = record { rotation_difference = k.rotation_difference; total_lagrange = add_of k.total_lagrange s.lagrange };
       bodies = s.bodies;
     }
 
-unfoldable pub angle_solved : FixedAngleConstraintShared → BodyPair → SymmetricTensor → SymmetricTensor → Float → Float → FixedAngleSolved
+unfoldable pub angle_solved : FixedAngleConstraintShared → BodyPair → SymmetricTensor → SymmetricTensor → Float → Float → Solved FixedAngleConstraintShared
 angle_solved k b I₁ I₂ α h =
     angle_corrected k
     (aligned b I₁ I₂ (rotation_difference_of k.rotation_difference b.body1.delta_rotation b.body2.delta_rotation) α h)

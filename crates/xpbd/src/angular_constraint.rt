@@ -1,47 +1,37 @@
 // A correction about a given axis (src/dynamics/solver/xpbd/angular_constraint.rs).
 ghost use Rattle.std.specs.Prelude.{◌≡◌};
 ghost use Rattle.std.specs.Float.Ieee.{neg};
-ghost use Rattle.vector.specs.Vector.{neg_of, scale_of};
+ghost use Rattle.vector.specs.Vector.{scale_of};
 ghost use Rattle.xpbd.specs.Parts.{pair, aligned};
-ghost use Rattle.xpbd.specs.Angular.{angular_inverse_mass, angular_delta_rot, turned, angular_impulse_applied};
+ghost use Rattle.xpbd.specs.Angular.{angular_inverse_mass, angular_delta_rot, angular_impulse_applied};
 
 use crate::compute_lagrange_update;
 use scalar::EPSILON;
 use solver_body::{BodyPair, SolverBody};
 use vector::{Quat, SymmetricTensor, Vec3};
 
-// Both bodies after a correction, and what it adds to the constraint's total.
+// Both bodies after a correction, and what it adds to the constraint's total: no `Solved`, since a multiplier is no solver data.
 #[derive(Clone, Copy)]
 pub struct Corrected {
     pub bodies: BodyPair,
     pub lagrange: Vec3,
 }
 
+#[tactic(auto, unfolding(crate::specs::Angular::angular_inverse_mass))]
 pub fn compute_generalized_inverse_mass(inv_angular_inertia: SymmetricTensor, axis: Vec3) -> f32
     ensures { result ≡ angular_inverse_mass inv_angular_inertia axis }
 {
-    axis.dot(inv_angular_inertia.mul_vec3(axis))
+    axis.dot(inv_angular_inertia * axis)
 }
 
+#[tactic(auto, unfolding(crate::specs::Angular::angular_delta_rot))]
 pub fn get_delta_rot(inv_angular_inertia: SymmetricTensor, p: Vec3) -> Quat
     ensures { result ≡ angular_delta_rot inv_angular_inertia p }
 {
-    Quat::from_scaled_axis(inv_angular_inertia.mul_vec3(p))
+    Quat::from_scaled_axis(inv_angular_inertia * p)
 }
 
-fn turn(mut body: SolverBody, inv_angular_inertia: SymmetricTensor, impulse: Vec3) -> SolverBody
-    ensures { result ≡ turned body inv_angular_inertia impulse }
-{
-    body.delta_rotation = get_delta_rot(inv_angular_inertia, impulse).mul_quat(body.delta_rotation);
-    body
-}
-
-fn turn_back(body: SolverBody, inv_angular_inertia: SymmetricTensor, impulse: Vec3) -> SolverBody
-    ensures { result ≡ turned body inv_angular_inertia (neg_of impulse) }
-{
-    turn(body, inv_angular_inertia, impulse.neg())
-}
-
+#[tactic(auto, unfolding(crate::specs::Angular::turned, crate::specs::Angular::angular_impulse_applied))]
 pub fn apply_angular_impulse(
     body1: &mut SolverBody,
     body2: &mut SolverBody,
@@ -51,11 +41,11 @@ pub fn apply_angular_impulse(
 )
     ensures { pair body1.new body2.new ≡ angular_impulse_applied (pair body1.old body2.old) inv_angular_inertia1 inv_angular_inertia2 impulse }
 {
-    *body1 = turn(*body1, inv_angular_inertia1, impulse);
-    *body2 = turn_back(*body2, inv_angular_inertia2, impulse);
+    body1.delta_rotation = get_delta_rot(inv_angular_inertia1, impulse) * body1.delta_rotation;
+    body2.delta_rotation = get_delta_rot(inv_angular_inertia2, -impulse) * body2.delta_rotation;
 }
 
-// The same with the bodies passed and returned.
+// The same with the bodies passed and returned, so that a caller needs no variables of its own, and its proof is found alone.
 pub fn angular_impulse(
     bodies: BodyPair,
     inv_angular_inertia1: SymmetricTensor,
@@ -89,10 +79,11 @@ pub fn apply_angular_lagrange_update(
         bodies,
         inv_angular_inertia1,
         inv_angular_inertia2,
-        axis.scale(-delta_lagrange),
+        -delta_lagrange * axis,
     )
 }
 
+#[tactic(auto, unfolding(crate::specs::Parts::aligned))]
 pub fn align_orientation(
     bodies: BodyPair,
     inv_angular_inertia1: SymmetricTensor,
@@ -110,7 +101,7 @@ pub fn align_orientation(
             lagrange: Vec3::ZERO,
         };
     }
-    let axis = rotation_difference.div(angle);
+    let axis = rotation_difference / angle;
     let w1 = compute_generalized_inverse_mass(inv_angular_inertia1, axis);
     let w2 = compute_generalized_inverse_mass(inv_angular_inertia2, axis);
     let delta_lagrange = compute_lagrange_update(0.0, angle, w1, w2, compliance, dt);
@@ -121,9 +112,8 @@ pub fn align_orientation(
         delta_lagrange,
         axis,
     );
-    let lagrange = axis.scale(delta_lagrange);
     Corrected {
         bodies: moved,
-        lagrange,
+        lagrange: delta_lagrange * axis,
     }
 }

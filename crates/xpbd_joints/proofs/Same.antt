@@ -1,5 +1,5 @@
 -- Each kind's solve, as the code's contracts have it, is the run of its steps.
-use Rattle.std.specs.Prelude.{if◌then◌else◌}
+use Rattle.std.specs.Prelude.{Option, None, Some, if◌then◌else◌}
 use mathlib.Core.Path.{◌≡◌, refl, sym, ap, ◌∙◌}
 use mathlib.Core.Bool.{Bool, true, false, not}
 use lib.Ieee.{Float, neg, eq, le}
@@ -10,15 +10,12 @@ use Rattle.vector.specs.declared.Vec3.{Vec3}
 use Rattle.vector.specs.declared.SymmetricTensor.{SymmetricTensor}
 use Rattle.joints.specs.Limit.{distance_correction, angle_correction}
 use Rattle.joints.specs.declared.Joint.TheVariants as kind
-use Rattle.joints.specs.declared.AngleLimitOption.{AngleLimitOption}
-use Rattle.joints.specs.declared.AngleLimitOption.TheVariants.{Unlimited, Limited}
+use Rattle.joints.specs.declared.AngleLimit.{AngleLimit}
 use Rattle.joints.specs.declared.AngleCorrection.{AngleCorrection}
 use Rattle.joints.specs.declared.AngleCorrection.TheVariants as limit
-use Rattle.joints.specs.declared.DistanceLimitOption.{DistanceLimitOption}
+use Rattle.joints.specs.declared.DistanceLimit.{DistanceLimit}
 use Rattle.joints.specs.declared.motor.AngularMotor.{AngularMotor}
 use Rattle.joints.specs.declared.motor.LinearMotor.{LinearMotor}
-use Rattle.joints.specs.declared.motor.MotorLagrange.{MotorLagrange}
-use Rattle.joints.specs.declared.motor.MotorLagrange.TheVariants as motor
 use Rattle.joints.specs.declared.fixed.FixedJoint.{FixedJoint}
 use Rattle.joints.specs.declared.revolute.RevoluteJoint.{RevoluteJoint}
 use Rattle.joints.specs.declared.prismatic.PrismaticJoint.{PrismaticJoint}
@@ -35,20 +32,17 @@ use Rattle.xpbd.specs.FixedAngle.{rotation_difference_of}
 use Rattle.xpbd.specs.Parts.{correction_impulse, position_corrected, aligned, point_solved, angle_corrected, angle_solved}
 use Rattle.xpbd.specs.declared.angular_constraint.Corrected.{Corrected}
 use Rattle.xpbd.specs.declared.point_constraint.PointConstraintShared.{PointConstraintShared}
-use Rattle.xpbd.specs.declared.point_constraint.PointSolved.{PointSolved}
 use Rattle.xpbd.specs.declared.fixed_angle_constraint.FixedAngleConstraintShared.{FixedAngleConstraintShared}
-use Rattle.xpbd.specs.declared.fixed_angle_constraint.FixedAngleSolved.{FixedAngleSolved}
+use Rattle.xpbd.specs.declared.Solved.{Solved}
 use Rattle.xpbd_joints.specs.Solved.{fixed_prepared, distance_prepared, revolute_prepared, prismatic_prepared, matrix_point, spherical_prepared}
 use Rattle.xpbd_joints.specs.Revolute.{angular_motor_given}
 use Rattle.xpbd_joints.specs.Prismatic.{linear_motor_given, slide_correction}
 use Rattle.xpbd_joints.specs.Spherical.{swing_correction, twist_correction}
 use Rattle.xpbd_joints.specs.Stage.{Reads, point, angle, hinge_align, hinge_limit, slide_align, swing, twist, Entry, Correction, limit_asked, Setting, entry_of, correction_of, multiplier_at, total_change, after_of}
 use Rattle.xpbd_joints.specs.Steps.{totals, no_totals, Slot, first, second, third, fourth, added, Step, compliant, hinge_motor, slide_motor, steps_of, Run, stage_at, uncalled, hinge_driven, slide_driven, stepped, run}
-use Rattle.xpbd_joints.specs.Solved.{setting_of, with_total, align_stage, limit_stage, fixed_solved, distance_solved, axes_stage, driven_by, motor_stage, angle_limit_stage, revolute_solved, driven_along, linear_motor_stage, position_stage, prismatic_solved, swing_stage, twist_stage, spherical_solved}
+use Rattle.xpbd_joints.specs.Solved.{Driven, setting_of, with_total, align_stage, limit_stage, fixed_solved, distance_solved, axes_stage, driven_by, motor_stage, angle_limit_stage, revolute_solved, driven_along, linear_motor_stage, position_stage, prismatic_solved, swing_stage, twist_stage, spherical_solved}
 use Rattle.xpbd_joints.specs.declared.JointTotals.{JointTotals}
-use Rattle.xpbd_joints.specs.declared.StageSolved.{StageSolved}
-use Rattle.xpbd_joints.specs.declared.prismatic.Driven.{Driven}
-use Rattle.xpbd_joints.specs.declared.distance.DistanceSolved.{DistanceSolved}
+use Rattle.xpbd_joints.specs.declared.distance.DistanceJointSolverData.{DistanceJointSolverData}
 
 -- f of a choice
 through : {A B : Type 0} (f : A → B) (v : Bool) (x y : A) → f (if v then x else y) ≡ (if v then f x else f y)
@@ -82,8 +76,8 @@ put_at fourth t = refl
 abbrev from : BodyPair → JointTotals → Run
 from b t = record { bodies = b; totals = t }
 
-abbrev stage_run : Slot → JointTotals → StageSolved → Run
-stage_run l t s = from s.bodies (put l s.total_lagrange t)
+abbrev stage_run : Slot → JointTotals → Solved Vec3 → Run
+stage_run l t s = from s.bodies (put l s.solver_data t)
 
 abbrev added_to : Slot → JointTotals → Corrected → Run
 added_to l t a = from a.bodies (added l a.lagrange t)
@@ -97,11 +91,11 @@ placed fourth t a = refl
 abbrev point_reads : PointConstraintShared → Reads
 point_reads p = point p.world_r1 p.world_r2 p.center_difference
 
-abbrev point_run : JointTotals → PointSolved → Run
-point_run t p = from p.bodies (put first p.constraint.total_lagrange t)
+abbrev point_run : JointTotals → Solved PointConstraintShared → Run
+point_run t p = from p.bodies (put first p.solver_data.total_lagrange t)
 
-abbrev angle_run : JointTotals → FixedAngleSolved → Run
-angle_run t p = from p.bodies (put second p.constraint.total_lagrange t)
+abbrev angle_run : JointTotals → Solved FixedAngleConstraintShared → Run
+angle_run t p = from p.bodies (put second p.solver_data.total_lagrange t)
 
 module _ (i₁ i₂ : SolverBodyInertia) (h : Float) where
   abbrev S : Setting
@@ -143,29 +137,29 @@ module _ (i₁ i₂ : SolverBodyInertia) (h : Float) where
   hinge_align_lem a₁ a₂ α b t =
       rotation (hinge_align a₁ a₂) second (cross_of (turn_of b.body1.delta_rotation a₁) (turn_of b.body2.delta_rotation a₂)) α b t
 
-  hinge_limit_lem : (o : AngleLimitOption) (a₁ b₁ b₂ : Vec3) (α : Float) (b : BodyPair) (t : JointTotals)
+  hinge_limit_lem : (o : Option AngleLimit) (a₁ b₁ b₂ : Vec3) (α : Float) (b : BodyPair) (t : JointTotals)
       → stepped S (compliant third (hinge_limit o a₁ b₁ b₂) α) (from b t) ≡ stage_run third t (angle_limit_stage o b I₁ I₂ a₁ b₁ b₂ t.third α h)
   unfolding angle_limit_stage correction_of after_of total_change multiplier_at
-  hinge_limit_lem Unlimited a₁ b₁ b₂ α b t = refl
-  hinge_limit_lem (Limited l) a₁ b₁ b₂ α b t =
+  hinge_limit_lem None a₁ b₁ b₂ α b t = refl
+  hinge_limit_lem (Some l) a₁ b₁ b₂ α b t =
       let q₁ = b.body1.delta_rotation in
-      limit_is (hinge_limit (Limited l) a₁ b₁ b₂) third (angle_correction l (turn_of q₁ a₁) (turn_of q₁ b₁) (turn_of b.body2.delta_rotation b₂) pi) α b t
+      limit_is (hinge_limit (Some l) a₁ b₁ b₂) third (angle_correction l (turn_of q₁ a₁) (turn_of q₁ b₁) (turn_of b.body2.delta_rotation b₂) pi) α b t
 
-  swing_is : (o : AngleLimitOption) (a₁ a₂ : Vec3) (α : Float) (b : BodyPair) (t : JointTotals)
+  swing_is : (o : Option AngleLimit) (a₁ a₂ : Vec3) (α : Float) (b : BodyPair) (t : JointTotals)
       → stepped S (compliant second (swing o a₁ a₂) α) (from b t) ≡ stage_run second t (swing_stage o b I₁ I₂ a₁ a₂ t.second α h)
   unfolding swing_stage correction_of after_of total_change multiplier_at
-  swing_is Unlimited a₁ a₂ α b t = refl
-  swing_is (Limited l) a₁ a₂ α b t =
-      limit_is (swing (Limited l) a₁ a₂) second (swing_correction l (turn_of b.body1.delta_rotation a₁) (turn_of b.body2.delta_rotation a₂)) α b t
+  swing_is None a₁ a₂ α b t = refl
+  swing_is (Some l) a₁ a₂ α b t =
+      limit_is (swing (Some l) a₁ a₂) second (swing_correction l (turn_of b.body1.delta_rotation a₁) (turn_of b.body2.delta_rotation a₂)) α b t
 
-  twist_is : (o : AngleLimitOption) (a₁ a₂ b₁ b₂ : Vec3) (α : Float) (b : BodyPair) (t : JointTotals)
+  twist_is : (o : Option AngleLimit) (a₁ a₂ b₁ b₂ : Vec3) (α : Float) (b : BodyPair) (t : JointTotals)
       → stepped S (compliant third (twist o a₁ a₂ b₁ b₂) α) (from b t) ≡ stage_run third t (twist_stage o b I₁ I₂ a₁ a₂ b₁ b₂ t.third α h)
   unfolding twist_stage correction_of after_of total_change multiplier_at
-  twist_is Unlimited a₁ a₂ b₁ b₂ α b t = refl
-  twist_is (Limited l) a₁ a₂ b₁ b₂ α b t =
+  twist_is None a₁ a₂ b₁ b₂ α b t = refl
+  twist_is (Some l) a₁ a₂ b₁ b₂ α b t =
       let q₁ = b.body1.delta_rotation in
       let q₂ = b.body2.delta_rotation in
-      limit_is (twist (Limited l) a₁ a₂ b₁ b₂) third (twist_correction l (turn_of q₁ a₁) (turn_of q₂ a₂) (turn_of q₁ b₁) (turn_of q₂ b₂) h) α b t
+      limit_is (twist (Some l) a₁ a₂ b₁ b₂) third (twist_correction l (turn_of q₁ a₁) (turn_of q₂ a₂) (turn_of q₁ b₁) (turn_of q₂ b₂) h) α b t
 
   angle_is : (c : FixedAngleConstraintShared) (α : Float) (b : BodyPair) (t : JointTotals) → c.total_lagrange ≡ t.second
       → stepped S (compliant second (angle c.rotation_difference) α) (from b t) ≡ angle_run t (angle_solved c b I₁ I₂ α h)
@@ -187,7 +181,7 @@ module _ (i₁ i₂ : SolverBodyInertia) (h : Float) where
       let v = eq (length_squared_of (apart b c.world_r1 c.world_r2 c.center_difference)) f0 in
       rw (← e) (swap v _ _ ∙ sym (through (point_run t) v _ _))
 
-  slide_align_lem : (o : DistanceLimitOption) (r₁ r₂ d axis : Vec3) (α : Float) (b : BodyPair) (t : JointTotals)
+  slide_align_lem : (o : Option DistanceLimit) (r₁ r₂ d axis : Vec3) (α : Float) (b : BodyPair) (t : JointTotals)
       → stepped S (compliant first (slide_align o r₁ r₂ d axis) α) (from b t) ≡ stage_run first t (position_stage o b i₁ i₂ r₁ r₂ d axis t.first α h)
   unfolding position_stage correction_impulse position_corrected weight correction_of after_of total_change multiplier_at
   slide_align_lem o r₁ r₂ d axis α b t =
@@ -196,10 +190,10 @@ module _ (i₁ i₂ : SolverBodyInertia) (h : Float) where
 
   -- ---- motors
 
-  hinge_given_lem : (g : MotorLagrange) (a : Vec3) (b : BodyPair) (t : JointTotals) → hinge_driven S g a (from b t) ≡ stage_run fourth t (driven_by g b I₁ I₂ a t.fourth)
+  hinge_given_lem : (g : Option Float) (a : Vec3) (b : BodyPair) (t : JointTotals) → hinge_driven S g a (from b t) ≡ stage_run fourth t (driven_by g b I₁ I₂ a t.fourth)
   unfolding driven_by
-  hinge_given_lem motor.None a b t = refl
-  hinge_given_lem (motor.Some Δλ) a b t = refl
+  hinge_given_lem None a b t = refl
+  hinge_given_lem (Some Δλ) a b t = refl
 
   hinge_motor_lem : (m : AngularMotor) (a₁ b₁ b₂ : Vec3) (b : BodyPair) (t : JointTotals)
       → stepped S (hinge_motor m a₁ b₁ b₂) (from b t) ≡ stage_run fourth t (motor_stage m b I₁ I₂ a₁ b₁ b₂ t.fourth h)
@@ -211,11 +205,11 @@ module _ (i₁ i₂ : SolverBodyInertia) (h : Float) where
       from d.bodies
       (totals d.total_position_lagrange t.second (record { x = d.total_motor_lagrange; y = t.third.y; z = t.third.z }) t.fourth)
 
-  slide_given_lem : (g : MotorLagrange) (r₁ r₂ a : Vec3) (b : BodyPair) (t : JointTotals)
+  slide_given_lem : (g : Option Float) (r₁ r₂ a : Vec3) (b : BodyPair) (t : JointTotals)
       → slide_driven S g r₁ r₂ a (from b t) ≡ slide_run t (driven_along g b i₁ i₂ r₁ r₂ a t.first t.third.x)
   unfolding driven_along
-  slide_given_lem motor.None r₁ r₂ a b t = refl
-  slide_given_lem (motor.Some Δλ) r₁ r₂ a b t = refl
+  slide_given_lem None r₁ r₂ a b t = refl
+  slide_given_lem (Some Δλ) r₁ r₂ a b t = refl
 
   slide_motor_lem : (m : LinearMotor) (arm₁ arm₂ d axis : Vec3) (b : BodyPair) (t : JointTotals)
       → stepped S (slide_motor m arm₁ arm₂ d axis) (from b t) ≡ slide_run t (linear_motor_stage m b i₁ i₂ arm₁ arm₂ d axis t.first t.third.x h)
@@ -254,14 +248,14 @@ module _ (i₁ i₂ : SolverBodyInertia) (h : Float) where
         let limit : Step = compliant third (hinge_limit j.angle_limit k.a1 k.b1 k.b2) j.limit_compliance in
         let motor : Step = hinge_motor j.motor k.a1 k.b1 k.b2 in
         let align = axes_stage b I₁ I₂ k.a1 k.a2 origin j.align_compliance h in
-        let t₁ = put second align.total_lagrange no_totals in
+        let t₁ = put second align.solver_data no_totals in
         let drive = motor_stage j.motor align.bodies I₁ I₂ k.a1 k.b1 k.b2 origin h in
-        let t₂ = put fourth drive.total_lagrange t₁ in
+        let t₂ = put fourth drive.solver_data t₁ in
         let stop = angle_limit_stage j.angle_limit drive.bodies I₁ I₂ k.a1 k.b1 k.b2 origin j.limit_compliance h in
         ap (λ (r : Run). stepped S point (stepped S limit (stepped S motor r))) (hinge_align_lem k.a1 k.a2 j.align_compliance b no_totals)
         ∙ ap (λ (r : Run). stepped S point (stepped S limit r)) (hinge_motor_lem j.motor k.a1 k.b1 k.b2 align.bodies t₁)
         ∙ ap (stepped S point) (hinge_limit_lem j.angle_limit k.a1 k.b1 k.b2 j.limit_compliance drive.bodies t₂)
-        ∙ point_is k.point_constraint j.point_compliance stop.bodies (put third stop.total_lagrange t₂) refl
+        ∙ point_is k.point_constraint j.point_compliance stop.bodies (put third stop.solver_data t₂) refl
 
     pub prismatic_is : (j : PrismaticJoint)
         → let s = prismatic_solved j (prismatic_prepared j b₁ b₂) b i₁ i₂ h in
@@ -278,7 +272,7 @@ module _ (i₁ i₂ : SolverBodyInertia) (h : Float) where
         let motor : Step = slide_motor j.motor r₁ r₂ d axis in
         let align : Step = compliant first (slide_align j.limits r₁ r₂ d axis) j.align_compliance in
         let turn = angle_solved k.angle_constraint b I₁ I₂ j.angle_compliance h in
-        let t₁ = put second turn.constraint.total_lagrange no_totals in
+        let t₁ = put second turn.solver_data.total_lagrange no_totals in
         let drive = linear_motor_stage j.motor turn.bodies i₁ i₂ r₁ r₂ d axis origin f0 h in
         ap (λ (r : Run). stepped S align (stepped S motor r)) (angle_is k.angle_constraint j.angle_compliance b no_totals refl)
         ∙ ap (stepped S align) (slide_motor_lem j.motor r₁ r₂ d axis turn.bodies t₁)
@@ -297,11 +291,11 @@ module _ (i₁ i₂ : SolverBodyInertia) (h : Float) where
         let second' : Step = compliant second (swing j.swing_limit a₁ a₂) j.swing_compliance in
         let third' : Step = compliant third (twist j.twist_limit a₁ a₂ k.twist_axis1 k.twist_axis2) j.twist_compliance in
         let held = point_solved k.point_constraint b i₁ i₂ j.point_compliance h in
-        let t₁ = put first held.constraint.total_lagrange no_totals in
+        let t₁ = put first held.solver_data.total_lagrange no_totals in
         let swung = swing_stage j.swing_limit held.bodies I₁ I₂ a₁ a₂ origin j.swing_compliance h in
         ap (λ (r : Run). stepped S third' (stepped S second' r)) (point_is k.point_constraint j.point_compliance b no_totals refl)
         ∙ ap (stepped S third') (swing_is j.swing_limit a₁ a₂ j.swing_compliance held.bodies t₁)
-        ∙ twist_is j.twist_limit a₁ a₂ k.twist_axis1 k.twist_axis2 j.twist_compliance swung.bodies (put second swung.total_lagrange t₁)
+        ∙ twist_is j.twist_limit a₁ a₂ k.twist_axis1 k.twist_axis2 j.twist_compliance swung.bodies (put second swung.solver_data t₁)
 
     pub distance_is : (j : DistanceJoint)
         → let s = distance_solved j (distance_prepared j b₁ b₂) b i₁ i₂ h in
@@ -310,4 +304,4 @@ module _ (i₁ i₂ : SolverBodyInertia) (h : Float) where
     distance_is j =
         let k = distance_prepared j b₁ b₂ in
         let v = le (distance_correction j.limits (apart b k.world_r1 k.world_r2 k.center_difference)).magnitude epsilon in
-        swap v _ _ ∙ sym (through (λ (s : DistanceSolved). from s.bodies (totals s.solver_data.total_lagrange origin origin origin)) v _ _)
+        swap v _ _ ∙ sym (through (λ (s : Solved DistanceJointSolverData). from s.bodies (totals s.solver_data.total_lagrange origin origin origin)) v _ _)

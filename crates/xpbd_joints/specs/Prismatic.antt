@@ -1,5 +1,5 @@
 -- What a prismatic joint prepares, its motor's warm start and what its motor gives, all the Rust's own; and the correction of its positions: Müller 2020, equation (25), along three axes, the limit's with the others. Definitions only.
-use Rattle.std.specs.Prelude.{not, Float, if◌then◌else◌}
+use Rattle.std.specs.Prelude.{not, Option, None, Some, Float, if◌then◌else◌}
 use Rattle.scalar.specs.Arith.{◌⊕◌, ◌⊖◌, ◌⊗◌}
 use Rattle.vector.specs.Vector.{origin, add_of, sub_of, scale_of, times_of, dot_of, cross_of, any_orthogonal}
 use Rattle.vector.specs.Rotation.{turn_of}
@@ -8,10 +8,8 @@ use Rattle.vector.specs.declared.Vec3.{Vec3}
 use Rattle.vector.specs.declared.SymmetricTensor.{SymmetricTensor}
 use Rattle.joints.specs.Limit.{zero_limit, axis_correction}
 use Rattle.joints.specs.Motor.{motor_lagrange, unless_off}
-use Rattle.joints.specs.declared.DistanceLimitOption.{DistanceLimitOption}
-use Rattle.joints.specs.declared.DistanceLimitOption.TheVariants.{Unlimited, Limited}
+use Rattle.joints.specs.declared.DistanceLimit.{DistanceLimit}
 use Rattle.joints.specs.declared.motor.LinearMotor.{LinearMotor}
-use Rattle.joints.specs.declared.motor.MotorLagrange.{MotorLagrange}
 use Rattle.solver_body.specs.Body.{with_velocity, effective_inv_mass}
 use Rattle.solver_body.specs.declared.SolverBodyInertia.{SolverBodyInertia}
 use Rattle.solver_body.specs.declared.BodyPair.{BodyPair}
@@ -38,7 +36,7 @@ prismatic_warmed m b i₁ i₂ arm₁ arm₂ axis w c =
     else pushed_by b (effective_inv_mass i₁) (effective_inv_mass i₂) i₁.inv_angular_inertia i₂.inv_angular_inertia p r₁ r₂
 
 -- what the motor's operation gives, by the errors v of the speed along the axis and x of the position along it
-unfoldable pub linear_motor_given : LinearMotor → BodyPair → SolverBodyInertia → SolverBodyInertia → Vec3 → Vec3 → Vec3 → Vec3 → Float → MotorLagrange
+unfoldable pub linear_motor_given : LinearMotor → BodyPair → SolverBodyInertia → SolverBodyInertia → Vec3 → Vec3 → Vec3 → Vec3 → Float → Option Float
 linear_motor_given m b i₁ i₂ arm₁ arm₂ d axis h =
     let q₁ = b.body1.delta_rotation in
     let a = turn_of q₁ axis in
@@ -50,12 +48,12 @@ linear_motor_given m b i₁ i₂ arm₁ arm₂ d axis h =
     unless_off m.enabled w (motor_lagrange m.motor_model m.max_force v x w h)
 
 -- the sum begins at zero, which makes a -0 of the correction +0
-unfoldable pub free_axis_correction : DistanceLimitOption → Vec3 → Vec3 → Vec3
-free_axis_correction Unlimited s a = origin
-free_axis_correction (Limited l) s a = add_of origin (axis_correction l s a)
+unfoldable pub free_axis_correction : Option DistanceLimit → Vec3 → Vec3 → Vec3
+free_axis_correction None s a = origin
+free_axis_correction (Some l) s a = add_of origin (axis_correction l s a)
 
 -- (25) for the separation s: along the free axis a to its limits, along two others, which need not have length 1, to zero
-unfoldable pub slide_correction : DistanceLimitOption → Vec3 → Vec3 → Vec3
+unfoldable pub slide_correction : Option DistanceLimit → Vec3 → Vec3 → Vec3
 slide_correction l s a =
     let b = any_orthogonal a in
     add_of (add_of (free_axis_correction l s a) (axis_correction zero_limit s b)) (axis_correction zero_limit s (cross_of a b))

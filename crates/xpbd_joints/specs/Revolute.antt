@@ -1,5 +1,5 @@
 -- What a revolute joint prepares, its motor's warm start and what its motor gives: all the Rust's own. Definitions only.
-use Rattle.std.specs.Prelude.{not, Float, if◌then◌else◌}
+use Rattle.std.specs.Prelude.{not, Option, Float, if◌then◌else◌}
 use Rattle.scalar.specs.Arith.{◌⊕◌, ◌⊖◌, pi, tau}
 use Rattle.scalar.specs.Scalar.{rem_euclid_of}
 use Rattle.trig.specs.Arctangent.{atan2_of}
@@ -10,7 +10,6 @@ use Rattle.vector.specs.declared.Vec3.{Vec3}
 use Rattle.vector.specs.declared.SymmetricTensor.{SymmetricTensor}
 use Rattle.joints.specs.Motor.{motor_lagrange, unless_off}
 use Rattle.joints.specs.declared.motor.AngularMotor.{AngularMotor}
-use Rattle.joints.specs.declared.motor.MotorLagrange.{MotorLagrange}
 use Rattle.solver_body.specs.Body.{with_velocity}
 use Rattle.solver_body.specs.declared.BodyPair.{BodyPair}
 use Rattle.xpbd.specs.Angular.{angular_inverse_mass}
@@ -36,7 +35,7 @@ unfoldable pub wrapped_error : Float → Float
 wrapped_error x = rem_euclid_of (x ⊕ pi) tau ⊖ pi
 
 -- what the motor's operation gives, by the errors v of the angle's speed and x of the angle
-unfoldable pub angular_motor_given : AngularMotor → BodyPair → SymmetricTensor → SymmetricTensor → Vec3 → Vec3 → Vec3 → Float → MotorLagrange
+unfoldable pub angular_motor_given : AngularMotor → BodyPair → SymmetricTensor → SymmetricTensor → Vec3 → Vec3 → Vec3 → Float → Option Float
 angular_motor_given m b I₁ I₂ a₁ b₁ b₂ h =
     let q₁ = b.body1.delta_rotation in
     let a = turn_of q₁ a₁ in

@@ -1,5 +1,5 @@
 -- A compliance stage: one call of the multiplier's update (Macklin 2016; Müller 2020) within a joint's solve, and the impulse made from its answer. Where a stage returns early, and the sign of an angular impulse, are the Rust's own. Definitions only.
-use Rattle.std.specs.Prelude.{Bool, true, false, not, Float}
+use Rattle.std.specs.Prelude.{Bool, true, false, not, Option, None, Some, Float}
 use Rattle.std.specs.Float.Ieee.{neg, eq, le}
 use Rattle.scalar.specs.Arith.{◌⊕◌, f0, epsilon, pi}
 use Rattle.vector.specs.Vector.{origin, neg_of, scale_of, div_of, cross_of, length_of, length_squared_of, max_element}
@@ -9,12 +9,9 @@ use Rattle.vector.specs.declared.Quat.{Quat}
 use Rattle.vector.specs.declared.SymmetricTensor.{SymmetricTensor}
 use Rattle.joints.specs.Limit.{distance_correction, angle_correction}
 use Rattle.joints.specs.declared.DistanceLimit.{DistanceLimit}
-use Rattle.joints.specs.declared.DistanceLimitOption.{DistanceLimitOption}
 use Rattle.joints.specs.declared.AngleLimit.{AngleLimit}
-use Rattle.joints.specs.declared.AngleLimitOption.{AngleLimitOption}
-use Rattle.joints.specs.declared.AngleLimitOption.TheVariants.{Unlimited, Limited}
 use Rattle.joints.specs.declared.AngleCorrection.{AngleCorrection}
-use Rattle.joints.specs.declared.AngleCorrection.TheVariants.{None, Some}
+use Rattle.joints.specs.declared.AngleCorrection.TheVariants as correction
 use Rattle.solver_body.specs.Body.{effective_inv_mass}
 use Rattle.solver_body.specs.declared.SolverBody.{SolverBody}
 use Rattle.solver_body.specs.declared.SolverBodyInertia.{SolverBodyInertia}
@@ -31,10 +28,10 @@ pub data Reads : Type 0 where
   point : Vec3 → Vec3 → Vec3 → Reads
   angle : Quat → Reads
   hinge_align : Vec3 → Vec3 → Reads
-  hinge_limit : AngleLimitOption → Vec3 → Vec3 → Vec3 → Reads
-  slide_align : DistanceLimitOption → Vec3 → Vec3 → Vec3 → Vec3 → Reads
-  swing : AngleLimitOption → Vec3 → Vec3 → Reads
-  twist : AngleLimitOption → Vec3 → Vec3 → Vec3 → Vec3 → Reads
+  hinge_limit : Option AngleLimit → Vec3 → Vec3 → Vec3 → Reads
+  slide_align : Option DistanceLimit → Vec3 → Vec3 → Vec3 → Vec3 → Reads
+  swing : Option AngleLimit → Vec3 → Vec3 → Reads
+  twist : Option AngleLimit → Vec3 → Vec3 → Vec3 → Vec3 → Reads
   tether : DistanceLimit → Vec3 → Vec3 → Vec3 → Reads
 
 -- each point, the slide's align and the tether
@@ -75,9 +72,9 @@ pub record Correction : Type 0 where
   pub r₂ : Vec3
 
 -- none where there is no limit
-abbrev pub limited : AngleLimitOption → (AngleLimit → AngleCorrection) → AngleCorrection
-limited Unlimited correction = None
-limited (Limited l) correction = correction l
+abbrev pub limited : Option AngleLimit → (AngleLimit → AngleCorrection) → AngleCorrection
+limited None asked = correction.None
+limited (Some l) asked = asked l
 
 module _ (e : Entry) where
   abbrev pub turned₁ : Vec3 → Vec3
@@ -108,8 +105,8 @@ module _ (e : Entry) where
       record { called = not (le (length_of d) epsilon); still = false; error = length_of d; w₁ = w₁; w₂ = w₂; n = n; r₁ = origin; r₂ = origin }
 
   abbrev pub limit_asked : AngleCorrection → Correction
-  limit_asked None = record { called = false; still = true; error = f0; w₁ = f0; w₂ = f0; n = origin; r₁ = origin; r₂ = origin }
-  limit_asked (Some d) = rotation_asked d
+  limit_asked correction.None = record { called = false; still = true; error = f0; w₁ = f0; w₂ = f0; n = origin; r₁ = origin; r₂ = origin }
+  limit_asked (correction.Some d) = rotation_asked d
 
   abbrev pub asked : Reads → Correction
   asked (point a b d) =

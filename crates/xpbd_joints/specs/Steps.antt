@@ -1,5 +1,5 @@
 -- A joint's solve is its list of steps: compliance stages (Müller 2020) and motors, each from the bodies that the one before left. The order of a kind's steps, the motors and the totals are the Rust's own. Definitions only.
-use Rattle.std.specs.Prelude.{Bool, true, false, List, [], ◌∷◌, ◌++◌, Float, if◌then◌else◌}
+use Rattle.std.specs.Prelude.{Bool, true, false, List, [], ◌∷◌, ◌++◌, Option, None, Some, Float, if◌then◌else◌}
 use Rattle.std.specs.Float.Ieee.{neg}
 use Rattle.scalar.specs.Arith.{◌⊕◌, ◌⊘◌, f0}
 use Rattle.vector.specs.Vector.{origin, add_of, neg_of, scale_of, div_of, any_orthonormal}
@@ -9,8 +9,6 @@ use Rattle.joints.specs.declared.Joint.{Joint}
 use Rattle.joints.specs.declared.Joint.TheVariants.{Fixed, Revolute, Prismatic, Spherical, Distance}
 use Rattle.joints.specs.declared.motor.AngularMotor.{AngularMotor}
 use Rattle.joints.specs.declared.motor.LinearMotor.{LinearMotor}
-use Rattle.joints.specs.declared.motor.MotorLagrange.{MotorLagrange}
-use Rattle.joints.specs.declared.motor.MotorLagrange.TheVariants.{None, Some}
 use Rattle.solver_body.specs.declared.RigidBody.{RigidBody}
 use Rattle.solver_body.specs.declared.BodyPair.{BodyPair}
 use Rattle.xpbd.specs.Positional.{impulse_applied, anchor_arm, center_difference_of}
@@ -93,10 +91,10 @@ pub record Run : Type 0 where
 pub record MotorPush : Type 0 where
   pub cap : Float
   pub dt : Float
-  pub given : MotorLagrange
+  pub given : Option Float
 
 -- zero where it gives none
-abbrev pub push_multiplier : MotorLagrange → Float
+abbrev pub push_multiplier : Option Float → Float
 push_multiplier None = f0
 push_multiplier (Some Δλ) = Δλ
 
@@ -122,14 +120,14 @@ module _ (S : Setting) where
   stage_at k α b = record { reads = k; setting = S; bodies = b; compliance = α }
 
   -- what a motor's operation gives
-  abbrev pub hinge_given : AngularMotor → Vec3 → Vec3 → Vec3 → BodyPair → MotorLagrange
+  abbrev pub hinge_given : AngularMotor → Vec3 → Vec3 → Vec3 → BodyPair → Option Float
   hinge_given m a₁ b₁ b₂ b = angular_motor_given m b S.inertia1.inv_angular_inertia S.inertia2.inv_angular_inertia a₁ b₁ b₂ S.dt
 
-  abbrev pub slide_given : LinearMotor → Vec3 → Vec3 → Vec3 → Vec3 → BodyPair → MotorLagrange
+  abbrev pub slide_given : LinearMotor → Vec3 → Vec3 → Vec3 → Vec3 → BodyPair → Option Float
   slide_given m arm₁ arm₂ d axis b = linear_motor_given m b S.inertia1 S.inertia2 arm₁ arm₂ d axis S.dt
 
   -- a hinge's motor turns the bodies about its axis a, and adds to the fourth total
-  abbrev pub hinge_driven : MotorLagrange → Vec3 → Run → Run
+  abbrev pub hinge_driven : Option Float → Vec3 → Run → Run
   hinge_driven None a r = r
   hinge_driven (Some Δλ) a r =
       record {
@@ -138,7 +136,7 @@ module _ (S : Setting) where
       }
 
   -- a slide's motor pushes them along its axis a, and adds to the first total and to the x of the third
-  abbrev pub slide_driven : MotorLagrange → Vec3 → Vec3 → Vec3 → Run → Run
+  abbrev pub slide_driven : Option Float → Vec3 → Vec3 → Vec3 → Run → Run
   slide_driven None r₁ r₂ a r = r
   slide_driven (Some Δλ) r₁ r₂ a r =
       let t = added first (scale_of a Δλ) r.totals in

@@ -198,7 +198,7 @@ fn functions(text: &str) -> BTreeMap<String, Vec<Line>> {
     for line in text.lines().map(str::trim) {
         if let Some((_, name)) = line
             .strip_suffix(">:")
-            .and_then(|line| line.split_once('<'))
+            .and_then(|line| line.split_once(" <"))
         {
             lines = functions.entry(name.to_string()).or_default();
         } else if let Some((_, to)) = line.split_once(": R_X86_64_") {

@@ -11,9 +11,13 @@ struct Part {
 }
 
 const DEFINITIONS: &str = "crates/series/specs/Tables.antt";
-const ROWS: &str = "crates/trig_tables/src/lib.rt";
+const STATICS: &str = "crates/trig_tables/src/lib.rt";
 const CURVES: &str = "crates/root/src/lib.rt";
 const STARTS: &str = "crates/root/specs/Start.antt";
+
+/// A line of code with numbers has three spaces, and with the space before each number no more than this.
+const INDENT: &str = "   ";
+const WIDTH: usize = 99;
 
 /// A table of 1,025 numbers: 16 rows of 64, and one number more.
 struct Table {
@@ -21,22 +25,22 @@ struct Table {
     /// Its list, and a row of it, in the definitions.
     list: &'static str,
     row: &'static str,
-    /// What its functions' names begin with.
-    function: &'static str,
+    /// Its name in the code.
+    code: &'static str,
 }
 
 const SINES: Table = Table {
     numbers: &SINE,
     list: "sines",
     row: "sine_row",
-    function: "sine",
+    code: "SINES",
 };
 
 const ARCTANGENTS: Table = Table {
     numbers: &ARCTANGENT,
     list: "arcs",
     row: "arc_row",
-    function: "arctangent",
+    code: "ARCTANGENTS",
 };
 
 fn lines<T>(items: impl IntoIterator<Item = T>, line: impl Fn(T) -> String) -> String {
@@ -61,43 +65,18 @@ impl Table {
         format!("unfoldable pub {list} : List ℕ\n{list} = {rows}{last} ∷ []\n")
     }
 
-    fn row_function(&self, i: usize, numbers: &[i64]) -> String {
-        let Self { function, row, .. } = self;
-        let arms = lines(numbers.iter().enumerate(), |(place, number)| {
-            format!("        {place} => {number},")
-        });
-        format!(
-            "fn {function}_row_{i}(i: usize) -> u32
-    requires {{ i < 64 }}
-    ensures {{ result ≡ get_or {row}{i} i 0 }}
-{{
-    match i {{
-{arms}
-        _ => past_row(i),
-    }}
-}}
-"
-        )
-    }
-
-    fn list_function(&self) -> String {
-        let Self { function, list, .. } = self;
-        let arms = lines(0..16, |row| {
-            format!("        {row} => {function}_row_{row}(i % 64),")
-        });
-        let last = self.numbers[1024];
-        format!(
-            "pub fn {function}_at(i: usize) -> u32
-    requires {{ i ≤ 1024 }}
-    ensures {{ result ≡ get_or {list} i 0 }}
-{{
-    match i / 64 {{
-{arms}
-        _ => {last},
-    }}
-}}
-"
-        )
+    /// As many numbers to a line as fit it.
+    fn static_item(&self) -> String {
+        let mut rows = vec![String::new()];
+        for number in self.numbers {
+            let cell = format!(" {number},");
+            match rows.last_mut() {
+                Some(row) if row.len() + cell.len() <= WIDTH - INDENT.len() => row.push_str(&cell),
+                _ => rows.push(cell),
+            }
+        }
+        let cells = lines(rows.iter(), |row| format!("{INDENT}{row}"));
+        format!("static {}: [u32; 1025] = [\n{cells}\n];\n", self.code)
     }
 
     fn parts(&self) -> Vec<Part> {
@@ -105,13 +84,9 @@ impl Table {
         let definitions = self
             .rows()
             .map(|(i, row)| of(DEFINITIONS, self.row_definition(i, row)));
-        let functions = self
-            .rows()
-            .map(|(i, row)| of(ROWS, self.row_function(i, row)));
         definitions
             .chain([of(DEFINITIONS, self.list_definition())])
-            .chain(functions)
-            .chain([of(ROWS, self.list_function())])
+            .chain([of(STATICS, self.static_item())])
             .collect()
     }
 }
@@ -191,9 +166,7 @@ fn rounded(x: i128, n: i128) -> i128 {
 
 fn curves() -> Vec<Part> {
     let curves: Vec<u64> = (0..256).map(|place| Curve { place }.packed()).collect();
-    let arms = lines(curves.iter().enumerate(), |(place, curve)| {
-        format!("        {place} => 0x{curve:016x},")
-    });
+    let cells = lines(&curves, |curve| format!("    0x{curve:016x},"));
     let values = lines(curves.chunks(16), |row| {
         let cells: Vec<String> = row
             .iter()
@@ -203,7 +176,10 @@ fn curves() -> Vec<Part> {
     });
     let of = |file, text| Part { file, text };
     vec![
-        of(CURVES, format!("    match i {{\n{arms}\n")),
+        of(
+            CURVES,
+            format!("static CURVES: [u64; 256] = [\n{cells}\n];\n"),
+        ),
         of(STARTS, format!("starting_values =\n{values} []\n")),
     ]
 }

@@ -8,7 +8,7 @@ use Rattle.trig.proofs.CarriedTable.{arc_small}
 use Rattle.trig.proofs.atan_at.Goals as goal
 
 pub interpolate-requires : goal.interpolate-requires
-interpolate-requires c = let k = c.before.before.before.args.k in omega (arith, arc_small (k / 16384) (omega arith), arc_small (k / 16384 + 1) (omega arith))
+interpolate-requires c = let k = c.args.k in omega (arith, arc_small (k / 16384) (omega arith), arc_small (k / 16384 + 1) (omega arith))
 
 -- 4 f over 2^16 is f over 2^14
 same_line : (t u f : ℕ) → f < 16384 → interpolated 65536 (pos t) (pos u) (f * 4) ≡ interpolated 16384 (pos t) (pos u) f
@@ -23,7 +23,7 @@ unfolding atan_at arcs
 top k t h e = rw (le-ltb k 16777216 h, e)
 
 pub returns-then-k-lt16777216 : goal.returns-then-k-lt16777216
-returns-then-k-lt16777216 c = (below c.before.before.before.before.args.k c.interpolate.result (omega arith) (cc), c.interpolate.ensures.1)
+returns-then-k-lt16777216 c = (below c.args.k c.interpolate.result (omega arith) (cc), c.interpolate.ensures.1)
 
 pub returns-else-k-lt16777216 : goal.returns-else-k-lt16777216
-returns-else-k-lt16777216 c = (top c.before.before.args.k c.arctangent_at-else-k-lt16777216.result (omega arith) c.arctangent_at-else-k-lt16777216.ensures, omega (arith, arc_small 1024 (lit< tt)))
+returns-else-k-lt16777216 c = (top c.args.k c.arctangent_at-else-k-lt16777216.result (omega arith) c.arctangent_at-else-k-lt16777216.ensures, omega (arith, arc_small 1024 (lit< tt)))

@@ -1,55 +1,28 @@
-use Prim.Native.Nat.{◌+◌, ◌-◌}
-use native.Mathlib.Omega.{arith}
-use mathlib.Core.Path.{refl, ◌∙◌}
-use Rattle.card.proofs.Cut.{part_length}
-use Rattle.card.proofs.Editions.{joint_width}
-use Rattle.card.proofs.Pairs.{found, next, ended, pair_of_lem}
+use Rattle.std.proofs.Common.{ℕ, Bool, List, ◌≡◌, ◌+◌, ◌*◌, ◌-◌, ◌≤◌, take, drop, arith, rules, tests, ap, ◌∙◌}
+use Rattle.std.proofs.lemmas.Iterator.{YieldsList-from_range}
+use Rattle.std.proofs.lemmas.Iterator.Search.{any_from_yields_List}
+use Rattle.card.specs.Format.{width_of, numbers_at, records_at}
+use Rattle.card.specs.Card.{at, body}
+use Rattle.card.specs.Checks.{wrong_pair}
+use Rattle.card.specs.Parts.{joint_bits}
+use Rattle.card.proofs.Cut.{numbers_part}
+use Rattle.card.proofs.Editions.{cells, joint_width}
+use Rattle.card.proofs.Loops.{any_found, any_records}
 use Rattle.card.proofs.checks.any_pair_fault.Goals as goal
 
-pub loop-left-init : goal.loop-left-init
-loop-left-init c = (omega arith, refl)
-
-pub returns-then-pair_fault : goal.returns-then-pair_fault
-returns-then-pair_fault c =
-    let f = c.before in
-    let l = f.before.before.before.before.loop-left in
-    found _ _ _ 123 (joint_width _ f.before.before.before.before.before.before.requires.0) l.from l.left (l.from + 123 - l.from) f.before.before.before.loop-left-test.true (omega arith)
-    (pair_of_lem _ _ f.before.joint_bits-b.ensures f.pair_fault.ensures ∙ c.if-pair_fault.true) l.invariant.1
-
-pub loop-left-preserved : goal.loop-left-preserved
-loop-left-preserved c =
-    let f = c.before in
-    let l = f.before.before.before.before.loop-left in (
-      omega arith,
-      next _ _ _ 123 (joint_width _ f.before.before.before.before.before.before.requires.0) l.from l.left (l.from + 123 - l.from) f.before.before.before.loop-left-test.true (omega arith)
-          (pair_of_lem _ _ f.before.joint_bits-b.ensures f.pair_fault.ensures ∙ c.if-pair_fault.false) l.invariant.1,
-    )
-
 pub returns : goal.returns
+unfolding joint_bits
 returns c =
-    let c1 = c.before in
-    ended _ _ _ c1.loop-left.from c1.loop-left.left c.loop-left-test.false c1.loop-left.invariant.1
-
-pub overflow_add-end : goal.overflow_add-end
-overflow_add-end c = omega arith
-
-pub slice_bounds-joint_bits-count : goal.slice_bounds-joint_bits-count
-slice_bounds-joint_bits-count c = omega arith
-
-pub slice_bounds-joint_bits-start : goal.slice_bounds-joint_bits-start
-slice_bounds-joint_bits-start c = omega arith
-
-pub slice_bounds-joint_bits-end : goal.slice_bounds-joint_bits-end
-slice_bounds-joint_bits-end c = omega arith
-
-pub joint_bits-b-requires : goal.joint_bits-b-requires
-joint_bits-b-requires c = omega (arith, part_length c.before.before.before.before.args.card.now c.before.before.loop-left.from (c.before.before.loop-left.from + 123 - c.before.before.loop-left.from) (omega arith))
-
-pub pair_fault-requires : goal.pair_fault-requires
-pair_fault-requires c = omega arith
-
-pub overflow_sub-left : goal.overflow_sub-left
-overflow_sub-left c = omega arith
-
-pub loop-left-smaller : goal.loop-left-smaller
-loop-left-smaller c = omega arith
+    let a = c.args in
+    let card = a.card.now in
+    let cs = (cells a.edition).joint in
+    let bodies = records_at body card (8 * a.bodies_at) a.bodies in
+    let p : List ℕ → Bool = λ j. wrong_pair bodies (at 1 j) (at 2 j) in
+    any_from_yields_List (λ j. let from = a.joints_at + 123 * j in p (numbers_at cs (take (from + 123 - from) (drop from card)) 0)) _ _ _ c.any.ensures.ran
+    (YieldsList-from_range 0 a.joints a.joints (cc) (omega arith)) (λ x b q k. search (rules, tests))
+    ∙ any_found _ (λ j. p (numbers_at cs card (8 * a.joints_at + j * width_of cs))) a.joints (λ j.
+    let from = a.joints_at + 123 * j in
+    let place : 8 * from ≡ 8 * a.joints_at + j * width_of cs = rw (joint_width a.edition) (omega arith) in
+    let whole : width_of cs ≤ 8 * (from + 123 - from) = rw (joint_width a.edition) (omega arith) in
+    ap p (numbers_part card from (from + 123 - from) cs whole) ∙ rw place)
+    ∙ any_records p cs card (8 * a.joints_at) a.joints

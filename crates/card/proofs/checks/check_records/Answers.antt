@@ -1,39 +1,27 @@
-use Prim.Native.Nat.{ℕ, ◌+◌, ◌*◌}
+use Prim.Native.Nat.{◌+◌, ◌*◌}
 use native.Mathlib.Omega.{arith}
-use mathlib.Core.Path.{◌≡◌}
-use mathlib.Core.Bool.{false, ◌||◌}
+use mathlib.Core.Path.{◌≡◌, refl, sym}
+use mathlib.Core.Bool.{Bool, cond, ◌||◌}
 use lib.ListN.{length}
 use Rattle.card.specs.declared.checks.Faults.{Faults}
 use Rattle.card.specs.Format.{width_of}
-use Rattle.card.specs.Card.{edition_of}
-use Rattle.card.specs.Checks.{first_of, record_checks}
+use Rattle.card.specs.Card.{at, Card}
+use Rattle.card.specs.Checks.{any, wrong_pair, first_of, record_checks}
 use Rattle.card.specs.Parts.{card_with}
-use Rattle.card.proofs.Bools.{told}
-use Rattle.card.proofs.CheckRows.{row_6, row_17, row_7, row_19, row_8, row_9, row_10}
-use Rattle.card.proofs.Checking.{First, none, applies, passes, first, behind}
-use Rattle.card.proofs.Editions.{header_width}
-use Rattle.card.proofs.checks.check_records.Goals.{After-joints_faults-j, After-sizes_of-at}
+use Rattle.card.proofs.CheckRows.{decided, row_10}
+use Rattle.card.proofs.Editions.{cells, header_width}
+use Rattle.card.proofs.checks.check_records.Goals.{After-joints_faults-j, After-sizes-at}
 use Rattle.card.proofs.checks.check_records.Goals as goal
 
--- what the checks behind the first k answer
-abbrev Left : ℕ → After-joints_faults-j → ℕ → Type 0
-Left k c n =
-    let a = c.args in
-    let e = edition_of a.edition in
-    First (behind k (record_checks e (card_with e a.card.now a.bodies a.joints))) n
-
-all : (c : After-joints_faults-j) {n : ℕ} → Left 0 c n
-    → let a = c.args in let e = edition_of a.edition in n ≡ first_of (record_checks e (card_with e a.card.now a.bodies a.joints))
-all c f = first f
-
 -- the header's bytes are its bits
-place : (c : After-joints_faults-j) → let z = c in 8 * z.sizes_of-at.result.header_bytes ≡ width_of (edition_of z.args.edition).header
-place c =
-    let z = c in
-    rw z.sizes_of-at.ensures (header_width _ z.requires.0)
+place : (c : After-joints_faults-j) → 8 * c.sizes-at.result.header_bytes ≡ width_of (cells c.args.edition).header
+place c = rw c.sizes-at.ensures (header_width c.args.edition)
 
--- past each check, those behind it decide
+-- what the checks answer by what was found, with what is found of pairs
 module _ (c : After-joints_faults-j) where
+  abbrev card : Card
+  card = let a = c.args in card_with (cells a.edition) a.card.now a.bodies a.joints
+
   abbrev h : Faults
   h = c.header_faults-h.result
 
@@ -43,84 +31,54 @@ module _ (c : After-joints_faults-j) where
   abbrev j : Faults
   j = c.joints_faults-j.result
 
-  past_6 : {n : ℕ} → (h.bits || b.bits || j.bits) ≡ false → Left 1 c n → Left 0 c n
-  past_6 bits f = passes (told (row_6 _ _ (place c) _ _ _ c.header_faults-h.ensures c.bodies_faults-b.ensures c.joints_faults-j.ensures) bits) f
-
-  past_17 : {n : ℕ} → (h.bits || b.bits || j.bits) ≡ false → b.dominance ≡ false → Left 2 c n → Left 0 c n
-  past_17 bits dominance f = past_6 bits (passes (told (row_17 _ _ (place c) _ _ _ c.header_faults-h.ensures c.bodies_faults-b.ensures c.joints_faults-j.ensures) dominance) f)
-
-  past_7 : {n : ℕ} → (h.bits || b.bits || j.bits) ≡ false → b.dominance ≡ false → (h.floats || b.floats || j.floats) ≡ false → Left 3 c n → Left 0 c n
-  past_7 bits dominance floats f =
-      past_17 bits dominance (passes (told (row_7 _ _ (place c) _ _ _ c.header_faults-h.ensures c.bodies_faults-b.ensures c.joints_faults-j.ensures bits) floats) f)
-
-  past_19 : {n : ℕ} → (h.bits || b.bits || j.bits) ≡ false → b.dominance ≡ false → (h.floats || b.floats || j.floats) ≡ false → j.angles ≡ false → Left 4 c n → Left 0 c n
-  past_19 bits dominance floats angles f =
-      past_7 bits dominance floats (passes (told (row_19 _ _ (place c) _ _ _ c.header_faults-h.ensures c.bodies_faults-b.ensures c.joints_faults-j.ensures) angles) f)
-
-  past_8 : {n : ℕ} → (h.bits || b.bits || j.bits) ≡ false → b.dominance ≡ false → (h.floats || b.floats || j.floats) ≡ false → j.angles ≡ false → j.limits ≡ false → Left 5 c n → Left 0 c n
-  past_8 bits dominance floats angles limits f =
-      past_19 bits dominance floats angles (passes (told (row_8 _ _ (place c) _ _ _ c.header_faults-h.ensures c.bodies_faults-b.ensures c.joints_faults-j.ensures) limits) f)
-
-  past_9 : {n : ℕ} → (h.bits || b.bits || j.bits) ≡ false → b.dominance ≡ false → (h.floats || b.floats || j.floats) ≡ false → j.angles ≡ false → j.limits ≡ false → (b.norms || j.norms) ≡ false → Left 6 c n → Left 0 c n
-  past_9 bits dominance floats angles limits norms f =
-      past_8 bits dominance floats angles limits (passes (told (row_9 _ _ (place c) _ _ _ c.header_faults-h.ensures c.bodies_faults-b.ensures c.joints_faults-j.ensures) norms) f)
+  all : {pairs : Bool} → pairs ≡ any (λ r. wrong_pair card.bodies (at 1 r) (at 2 r)) card.joints
+      → cond (h.bits || b.bits || j.bits) 6 (cond b.dominance 17 (cond (h.floats || b.floats || j.floats) 7 (cond j.angles 19 (cond j.limits 8 (cond (b.norms || j.norms) 9 (cond pairs 10 0))))))
+      ≡ first_of (record_checks (cells c.args.edition) card)
+  all ep = sym (decided (cells c.args.edition) _ (place c) _ _ _ c.header_faults-h.ensures c.bodies_faults-b.ensures c.joints_faults-j.ensures ep)
 
 pub returns-then-h-b : goal.returns-then-h-b
-returns-then-h-b c =
-    let P = (goal.at.returns-then-h-b c).After-joints_faults-j in
-    all P (applies (told (row_6 _ _ (place P) _ _ _ c.header_faults-h.ensures c.bodies_faults-b.ensures c.joints_faults-j.ensures) c.if-h-b.true))
+returns-then-h-b c = rw (c.if-h-b.true) at (all (goal.at.returns-then-h-b c).After-joints_faults-j refl)
 
 pub returns-then-b : goal.returns-then-b
-returns-then-b c =
-    let P = (goal.at.returns-then-b c).After-joints_faults-j in
-    all P (past_6 P c.if-h-b.false (applies (told (row_17 _ _ (place P) _ _ _ c.header_faults-h.ensures c.bodies_faults-b.ensures c.joints_faults-j.ensures) c.if-b.true)))
+returns-then-b c = rw (c.if-h-b.false, c.if-b.true) at (all (goal.at.returns-then-b c).After-joints_faults-j refl)
 
 pub returns-then-h-b-2 : goal.returns-then-h-b-2
-returns-then-h-b-2 c =
-    let P = (goal.at.returns-then-h-b-2 c).After-joints_faults-j in
-    all P (past_17 P c.if-h-b.false c.if-b.false (applies (told (row_7 _ _ (place P) _ _ _ c.header_faults-h.ensures c.bodies_faults-b.ensures c.joints_faults-j.ensures c.if-h-b.false) c.if-h-b-2.true)))
+returns-then-h-b-2 c = rw (c.if-h-b.false, c.if-b.false, c.if-h-b-2.true) at (all (goal.at.returns-then-h-b-2 c).After-joints_faults-j refl)
 
 pub returns-then-j : goal.returns-then-j
-returns-then-j c =
-    let P = (goal.at.returns-then-j c).After-joints_faults-j in
-    all P (past_7 P c.if-h-b.false c.if-b.false c.if-h-b-2.false (applies (told (row_19 _ _ (place P) _ _ _ c.header_faults-h.ensures c.bodies_faults-b.ensures c.joints_faults-j.ensures) c.if-j.true)))
+returns-then-j c = rw (c.if-h-b.false, c.if-b.false, c.if-h-b-2.false, c.if-j.true) at (all (goal.at.returns-then-j c).After-joints_faults-j refl)
 
 pub returns-then-j-2 : goal.returns-then-j-2
-returns-then-j-2 c =
-    let P = (goal.at.returns-then-j-2 c).After-joints_faults-j in
-    all P (past_19 P c.if-h-b.false c.if-b.false c.if-h-b-2.false c.if-j.false (applies (told (row_8 _ _ (place P) _ _ _ c.header_faults-h.ensures c.bodies_faults-b.ensures c.joints_faults-j.ensures) c.if-j-2.true)))
+returns-then-j-2 c = rw (c.if-h-b.false, c.if-b.false, c.if-h-b-2.false, c.if-j.false, c.if-j-2.true) at (all (goal.at.returns-then-j-2 c).After-joints_faults-j refl)
 
 pub returns-then-b-j : goal.returns-then-b-j
-returns-then-b-j c =
-    let P = (goal.at.returns-then-b-j c).After-joints_faults-j in
-    all P (past_8 P c.if-h-b.false c.if-b.false c.if-h-b-2.false c.if-j.false c.if-j-2.false (applies (told (row_9 _ _ (place P) _ _ _ c.header_faults-h.ensures c.bodies_faults-b.ensures c.joints_faults-j.ensures) c.if-b-j.true)))
+returns-then-b-j c = rw (c.if-h-b.false, c.if-b.false, c.if-h-b-2.false, c.if-j.false, c.if-j-2.false, c.if-b-j.true) at (all (goal.at.returns-then-b-j c).After-joints_faults-j refl)
 
 pub returns-then-any_pair_fault : goal.returns-then-any_pair_fault
 returns-then-any_pair_fault c =
     let P = (goal.at.returns-then-any_pair_fault c).After-joints_faults-j in
-    all P (past_9 P c.if-h-b.false c.if-b.false c.if-h-b-2.false c.if-j.false c.if-j-2.false c.if-b-j.false (applies (told (row_10 _ _ (place P) _ _ _ c.any_pair_fault.ensures) c.if-any_pair_fault.true)))
+    rw (c.if-h-b.false, c.if-b.false, c.if-h-b-2.false, c.if-j.false, c.if-j-2.false, c.if-b-j.false, c.if-any_pair_fault.true) at (all P (row_10 (cells P.args.edition) _ (place P) _ _ _ c.any_pair_fault.ensures))
 
 pub returns : goal.returns
 returns c =
     let P = (goal.at.returns c).After-joints_faults-j in
-    all P (past_9 P c.if-h-b.false c.if-b.false c.if-h-b-2.false c.if-j.false c.if-j-2.false c.if-b-j.false (passes (told (row_10 _ _ (place P) _ _ _ c.any_pair_fault.ensures) c.if-any_pair_fault.false) none))
+    rw (c.if-h-b.false, c.if-b.false, c.if-h-b-2.false, c.if-j.false, c.if-j-2.false, c.if-b-j.false, c.if-any_pair_fault.false) at (all P (row_10 (cells P.args.edition) _ (place P) _ _ _ c.any_pair_fault.ensures))
 
 -- the header's bytes, and that the card is as long as its counts say
-long : (c : After-sizes_of-at) → let a = c.args in length a.card.now ≡ c.sizes_of-at.result.header_bytes + 94 * a.bodies + 123 * a.joints
-long c = rw c.sizes_of-at.ensures c.requires.1
+long : (c : After-sizes-at) → let a = c.args in length a.card.now ≡ c.sizes-at.result.header_bytes + 94 * a.bodies + 123 * a.joints
+long c = rw c.sizes-at.ensures c.requires
 
 pub overflow_add-first : goal.overflow_add-first
-overflow_add-first c = omega (arith, long (goal.at.overflow_add-first c).After-sizes_of-at)
+overflow_add-first c = omega (arith, long (goal.at.overflow_add-first c).After-sizes-at)
 
 pub header_faults-h-requires : goal.header_faults-h-requires
-header_faults-h-requires c = (c.before.before.requires.0, omega (arith, c.before.before.requires.1))
+header_faults-h-requires c = omega (arith, c.before.before.requires)
 
 pub bodies_faults-b-requires : goal.bodies_faults-b-requires
-bodies_faults-b-requires c = omega (arith, long (goal.at.bodies_faults-b-requires c).After-sizes_of-at)
+bodies_faults-b-requires c = omega (arith, long (goal.at.bodies_faults-b-requires c).After-sizes-at)
 
 pub joints_faults-j-requires : goal.joints_faults-j-requires
-joints_faults-j-requires c = (c.before.before.before.before.requires.0, omega (arith, long (goal.at.joints_faults-j-requires c).After-sizes_of-at))
+joints_faults-j-requires c = omega (arith, long (goal.at.joints_faults-j-requires c).After-sizes-at)
 
 pub any_pair_fault-requires : goal.any_pair_fault-requires
-any_pair_fault-requires c = let z = c.before.before.before.before.before.before.before.before.before.before.before.before.before.before.before.before.before in
-    (z.before.before.requires.0, omega (arith, long (goal.at.any_pair_fault-requires c).After-sizes_of-at), omega (arith, long (goal.at.any_pair_fault-requires c).After-sizes_of-at))
+any_pair_fault-requires c = (omega (arith, long (goal.at.any_pair_fault-requires c).After-sizes-at), omega (arith, long (goal.at.any_pair_fault-requires c).After-sizes-at))

@@ -1,41 +1,18 @@
-use Prim.Native.Nat.{◌+◌, ◌-◌}
-use native.Mathlib.Omega.{arith}
-use Rattle.card.proofs.Cut.{part_length}
-use Rattle.card.proofs.Editions.{joint_width}
-use Rattle.card.proofs.Faulty.{none_yet, turn, done}
+use Rattle.std.proofs.Common.{◌≡◌, ◌+◌, ◌*◌, ◌-◌, ◌≤◌, arith, ◌∙◌}
+use Rattle.card.specs.Format.{width_of}
+use Rattle.card.specs.Parts.{joint_faults}
+use Rattle.card.proofs.Editions.{cells, joint_width}
+use Rattle.card.proofs.Faulty.{none, more}
 use Rattle.card.proofs.checks.joints_faults.Goals as goal
 
-pub loop-left-init : goal.loop-left-init
-loop-left-init c = (omega arith, none_yet _ _)
+pub loop-j-init : goal.loop-j-init
+loop-j-init c = let cs = (cells c.args.edition).joint in none (joint_faults cs) cs _ _
 
-pub loop-left-preserved : goal.loop-left-preserved
-loop-left-preserved c =
-    let b = c.before in
-    let l = b.before.before.before.loop-left in
-    (omega arith, turn _ _ _ 123 (joint_width _ b.before.before.before.before.before.requires.0) l.f l.from l.left (l.from + 123 - l.from) b.before.before.loop-left-test.true (omega arith) b.joint_faults.ensures c.or-f.ensures l.invariant.1)
-
-pub returns : goal.returns
-returns c =
-    let c1 = c.before in
-    done _ _ _ _ c1.loop-left.from c1.loop-left.left c.loop-left-test.false c1.loop-left.invariant.1
-
-pub overflow_add-end : goal.overflow_add-end
-overflow_add-end c = omega arith
-
-pub slice_bounds-joint_faults-count : goal.slice_bounds-joint_faults-count
-slice_bounds-joint_faults-count c = omega arith
-
-pub slice_bounds-joint_faults-start : goal.slice_bounds-joint_faults-start
-slice_bounds-joint_faults-start c = omega arith
-
-pub slice_bounds-joint_faults-end : goal.slice_bounds-joint_faults-end
-slice_bounds-joint_faults-end c = omega arith
-
-pub joint_faults-requires : goal.joint_faults-requires
-joint_faults-requires c = omega (arith, part_length c.before.before.before.before.args.card.now c.before.before.loop-left.from (c.before.before.loop-left.from + 123 - c.before.before.loop-left.from) (omega arith))
-
-pub overflow_sub-left : goal.overflow_sub-left
-overflow_sub-left c = omega arith
-
-pub loop-left-smaller : goal.loop-left-smaller
-loop-left-smaller c = omega arith
+pub loop-j-preserved : goal.loop-j-preserved
+loop-j-preserved c =
+    let cs = (cells c.args.edition).joint in
+    let j = c.loop-j.j in
+    let from = c.args.at + 123 * j in
+    let place : 8 * from ≡ 8 * c.args.at + j * width_of cs = rw (joint_width c.args.edition) (omega arith) in
+    let whole : width_of cs ≤ 8 * (from + 123 - from) = rw (joint_width c.args.edition) (omega arith) in
+    c.or-f.ensures ∙ more (joint_faults cs) cs c.args.card.now (8 * c.args.at) from (from + 123 - from) j place whole c.loop-j.invariant c.joint_faults.ensures

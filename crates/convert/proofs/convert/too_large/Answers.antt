@@ -4,4 +4,4 @@ use Rattle.convert.proofs.convert.too_large.Goals as goal
 
 pub returns : goal.returns
 unfolding too_large_in sizes_of
-returns c = rw c.before.before.before.before.before.before.sizes_of-s.ensures
+returns c = rw c.sizes-s.ensures

@@ -1,91 +1,65 @@
--- The bodies fill the front of both slices, the joints what is behind it; what the two rows hold is the linkage (Loading.antt).
+-- What the two loops leave is the card's linkage (Loading.antt).
 use Prim.Native.Nat.{◌+◌, ◌*◌, ◌≤◌}
 use native.Mathlib.Omega.{arith}
-use mathlib.Core.Path.{◌≡◌, sym, ap, ◌∙◌}
+use mathlib.Core.Path.{◌≡◌, ap}
+use mathlib.Core.List.{map}
 use lib.ListN.{length}
-use lib.Seq.{length-take-le}
-use Rattle.card.specs.Parts.{Listed, sizes_of}
-use Rattle.card.proofs.Accepted.{at_least_12}
-use Rattle.loader.proofs.Accepted.{known, fits}
-use Rattle.loader.proofs.Records.{halves, second_length}
-use Rattle.loader.proofs.Loading.{words_length_lem, floats_length_lem, loads}
-use Rattle.loader.proofs.load.load.Goals.{After-bits8_at-edition, After-sizes_of-at}
+use Rattle.card.specs.Format.{records_at}
+use Rattle.card.specs.Card.{body}
+use Rattle.card.specs.Parts.{sizes_of}
+use Rattle.card.proofs.Editions.{cells, joint_width}
+use Rattle.loader.specs.Linkage.{body_of, joint_of}
+use Rattle.loader.proofs.Accepted.{fits, joint_fits}
+use Rattle.loader.proofs.Loading.{same_linkage, tied, all_in_reach}
+use Rattle.loader.proofs.load.load.Goals.{After-sizes-first, After-load_joints}
 use Rattle.loader.proofs.load.load.Goals as goal
 
-listed : (c : After-bits8_at-edition) → Listed c.bits8_at-edition.result
-listed c = known _ c.requires.0 c.bits8_at-edition.ensures
-
-bytes : (c : After-sizes_of-at) → c.sizes_of-at.result.header_bytes ≡ (sizes_of c.bits8_at-edition.result).header_bytes
-bytes c = ap (λ s. s.header_bytes) c.sizes_of-at.ensures
+bytes : (c : After-sizes-first) → c.sizes-first.result.header_bytes ≡ (sizes_of c.of-edition.result).header_bytes
+bytes c = ap (λ s. s.header_bytes) c.sizes-first.ensures
 
 -- the card has the bodies and the joints
-fit : (c : After-sizes_of-at)
-    → let a = c.args in c.sizes_of-at.result.header_bytes + 94 * a.h.bodies + 123 * a.h.joints ≤ length a.card.now
-fit c =
-    let start = c in
-    fits start.args.card.now start.requires.0 c.bits8_at-edition.ensures (bytes c) start.args.h start.requires.1
+fit : (c : After-sizes-first) → c.sizes-first.result.header_bytes + 94 * c.args.h.bodies + 123 * c.args.h.joints ≤ length c.args.card.bytes.now
+fit c = fits c.args.card.bytes.now c.args.card.accepted c.of-edition.result c.of-edition.ensures (bytes c) c.args.h c.requires.0
 
-pub slice_bounds-load_bodies-end-2 : goal.slice_bounds-load_bodies-end-2
-slice_bounds-load_bodies-end-2 c =
-    let start = c.before.before.before.before.before.before in
-    sym (length-take-le (4 * start.args.h.bodies) start.args.words.now (omega arith))
+-- what the loops left
+module _ (c : After-load_joints) where
+  bodies_are : c.load_bodies.new.bodies ≡ map body_of (records_at body c.args.card.bytes.now (8 * c.sizes-first.result.header_bytes) c.args.h.bodies)
+  bodies_are = rw c.requires.1 at c.load_bodies.ensures
 
-pub slice_bounds-load_bodies-end-4 : goal.slice_bounds-load_bodies-end-4
-slice_bounds-load_bodies-end-4 c =
-    let start = c.before.before.before.before.before.before.before in
-    sym (length-take-le (10 * start.args.h.bodies) start.args.floats.now (omega arith))
+  joints_are : c.load_joints.new.joints ≡ map joint_of (records_at (cells c.of-edition.result).joint c.args.card.bytes.now (8 * (c.sizes-first.result.header_bytes + 94 * c.args.h.bodies)) c.args.h.joints)
+  joints_are = rw c.requires.2 at c.load_joints.ensures
 
 pub load_bodies-requires : goal.load_bodies-requires
-load_bodies-requires c =
-    let sizes = c.before.before in
-    let start = sizes.before.before.before.before.before in
-    let b = start.args.h.bodies in (
-      omega (arith, fit (goal.at.load_bodies-requires c).After-sizes_of-at),
-      length-take-le (4 * b) start.args.words.now (omega arith),
-      length-take-le (10 * b) start.args.floats.now (omega arith),
-    )
+load_bodies-requires c = omega (arith, fit (goal.at.load_bodies-requires c).After-sizes-first, c.requires.1)
+
+pub overflow_add-first : goal.overflow_add-first
+overflow_add-first c = omega (arith, fit (goal.at.overflow_add-first c).After-sizes-first)
 
 pub load_joints-requires : goal.load_joints-requires
 load_joints-requires c =
-    let first = c.before.before.before.before.before.before in
-    let sizes = first.before.before.before in
-    let start = sizes.before.before.before.before.before in
-    let card = start.args.card.now in
-    let h = start.args.h in
-    let words = start.args.words.now in
-    let floats = start.args.floats.now in
-    let at = sizes.sizes_of-at.result.header_bytes in
-    let w = second_length (4 * h.bodies) first.load_bodies.new.words words (ap length first.load_bodies.ensures.words ∙ words_length_lem card h at) in
-    let f = second_length (10 * h.bodies) first.load_bodies.new.floats floats (ap length first.load_bodies.ensures.floats ∙ floats_length_lem card h at) in
-    (listed (goal.at.load_joints-requires c).After-bits8_at-edition, omega (arith, fit (goal.at.load_joints-requires c).After-sizes_of-at), w ∙ omega arith, f ∙ omega arith)
+    let s = (goal.at.load_joints-requires c).After-sizes-first in
+    let width = joint_width c.of-edition.result in (
+      omega (arith, fit s, c.requires.2),
+      λ j r. rw width at (joint_fits c.args.card.bytes.now c.args.card.accepted c.of-edition.result c.of-edition.ensures (bytes s) c.args.h c.requires.0 j (rw c.requires.2 at r)).0,
+    )
 
-pub returns : goal.returns
-returns c =
-    let second = c.before.before.before.before in
-    let first = second.before.before.before.before.before.before.before in
-    let sizes = first.before.before.before in
-    let start = sizes.before.before.before.before.before in
-    let card = start.args.card.now in
-    let h = start.args.h in
-    let at = sizes.sizes_of-at.result.header_bytes in
-    let bodies = first.load_bodies in
-    let joints = second.load_joints in
-    let answer =
-    loads card h at start.requires.0 start.requires.1 sizes.before.bits8_at-edition.ensures (bytes (goal.at.returns c).After-sizes_of-at)
-    (halves (4 * h.bodies) bodies.new.words start.args.words.now (ap length bodies.ensures.words ∙ words_length_lem card h at) joints.new.words)
-    bodies.ensures.words joints.ensures.words
-    (halves (10 * h.bodies) bodies.new.floats start.args.floats.now (ap length bodies.ensures.floats ∙ floats_length_lem card h at) joints.new.floats)
-    bodies.ensures.floats joints.ensures.floats
-    in record { linkage = answer.0; loaded = answer.1 }
+pub invariant_of-result : goal.invariant_of-result
+invariant_of-result c =
+    let a = c.args in
+    let at = goal.at.invariant_of-result c in
+    let b = bodies_are at.After-load_joints in
+    let j = joints_are at.After-load_joints in
+    let n = bytes at.After-sizes-first in
+    let first = c.sizes-first.result.header_bytes in
+    record {
+      tied = tied a.card.bytes.now a.h first c.args.card.accepted c.requires.0 c.of-edition.result c.of-edition.ensures n b j;
+      in_reach = all_in_reach a.card.bytes.now a.h first c.args.card.accepted c.requires.0 c.of-edition.result c.of-edition.ensures n b j;
+    }
 
-pub bits8_at-edition-requires : goal.bits8_at-edition-requires
-bits8_at-edition-requires c = omega (arith, at_least_12 _ c.before.before.before.requires.0)
-
-pub sizes_of-at-requires : goal.sizes_of-at-requires
-sizes_of-at-requires c = listed (goal.at.sizes_of-at-requires c).After-bits8_at-edition
-
-pub overflow_mul-bodies : goal.overflow_mul-bodies
-overflow_mul-bodies c = omega (arith, fit (goal.at.overflow_mul-bodies c).After-sizes_of-at)
-
-pub overflow_add-at : goal.overflow_add-at
-overflow_add-at c = omega (arith, fit (goal.at.overflow_add-at c).After-sizes_of-at)
+pub returns-clause-linkage : goal.returns-clause-linkage
+returns-clause-linkage c =
+    let a = c.args in
+    let at = goal.at.returns-clause-linkage c in
+    let b = bodies_are at.After-load_joints in
+    let j = joints_are at.After-load_joints in
+    same_linkage a.card.bytes.now a.h c.sizes-first.result.header_bytes c.args.card.accepted c.requires.0 c.of-edition.result c.of-edition.ensures (bytes at.After-sizes-first) b j

@@ -1,4 +1,4 @@
-use Prim.Native.Nat.{◌*◌, ◌-◌, ◌≤◌}
+use Prim.Native.Nat.{◌*◌}
 use mathlib.Core.Path.{◌≡◌}
 use mathlib.Core.List.{◌++◌}
 use lib.ListN.{length, drop}
@@ -10,7 +10,4 @@ use Rattle.state.proofs.start.write_bodies.Given as goal
 
 abbrev pub invariant-loop-i : goal.invariant-loop-i
 invariant-loop-i l =
-    (l.i ≤ l.bodies) × (length l.state ≡ length l.initial.state) × (l.state ≡ start_numbers (records_at body l.card (8 * l.at) l.i) ++ drop (body_numbers * l.i) l.initial.state)
-
-abbrev pub decreases-loop-i : goal.decreases-loop-i
-decreases-loop-i l = l.bodies - l.i
+    (length l.state ≡ length l.initial.state) × (l.state ≡ start_numbers (records_at body l.card (8 * l.at) l.i) ++ drop (body_numbers * l.i) l.initial.state)

@@ -1,9 +1,8 @@
 use native.Mathlib.Omega.{arith}
 use Prim.Native.Nat.{ℕ}
 use mathlib.Core.Path.{◌≡◌, sym, ◌∙◌}
-use Rattle.card.specs.Answer.{number_of}
 use Rattle.card.specs.Card.{card_of}
-use Rattle.card.specs.Checks.{check_of}
+use Rattle.card.proofs.Refusals.{numbered}
 use Rattle.loader.specs.Linkage.{linkage_of}
 use Rattle.loader.proofs.Accepted.{counts_within}
 use Rattle.tick.specs.Run.{run_of}
@@ -12,14 +11,9 @@ use Rattle.tick.proofs.Ticking.{card_refused, length_refused, start_passed, stat
 use Rattle.tick.proofs.run.run.Goals.{Else-bad_numbers}
 use Rattle.tick.proofs.run.run.Goals as goal
 
-pub header_of-h-requires : goal.header_of-h-requires
-header_of-h-requires c =
-    sym c.check-answer.ensures ∙ sym c.number.ensures ∙ c.if-number-ne0.false
-
 pub state_length-requires : goal.state_length-requires
 state_length-requires c =
-    let z = sym c.check-answer.ensures ∙ sym c.number.ensures ∙ c.if-number-ne0.false in
-    let m = counts_within c.args.card.now z c.header_of-h.ensures in
+    let m = counts_within _ c.in-Ok.card.accepted c.header_of-h.ensures in
     (omega (arith, m), omega (arith, m))
 
 pub bad_numbers-requires : goal.bad_numbers-requires
@@ -28,71 +22,59 @@ bad_numbers-requires c =
 
 -- ---- past the last refusal
 
-checked : (n : Else-bad_numbers) → check_of n.args.card.now ≡ 0
-checked n = sym n.check-answer.ensures ∙ sym n.number.ensures ∙ n.if-number-ne0.false
-
-ran_so : (n : Else-bad_numbers) (ticks : ℕ) → all_or_nothing n.args.state.now (ticks_of (linkage_of (card_of n.args.card.now)) n.args.state.now ticks) ≡ run_of n.args.card.now n.args.state.now ticks
+ran_so : (n : Else-bad_numbers) (ticks : ℕ) → let card = n.in-Ok.card.bytes.now in all_or_nothing n.args.state.now (ticks_of (linkage_of (card_of card)) n.args.state.now ticks) ≡ run_of n.args.card.now n.args.state.now ticks
 ran_so n ticks =
-    let card = n.args.card.now in
-    let z = checked n in
+    let card = n.in-Ok.card.bytes.now in
+    let z = n.in-Ok.card.accepted in
     let len = n.if-state-state_length.false ∙ n.state_length.ensures ∙ length_is card z n.header_of-h.ensures in
-    run_is card z n.args.state.now (len, numbers_are card z n.header_of-h.ensures n.args.state.now ∙ sym n.bad_numbers.ensures ∙ n.if-bad_numbers.false) ticks
+    rw (← n.in-Ok.ensures.bytes) (run_is card z n.args.state.now (len, numbers_are card z n.header_of-h.ensures n.args.state.now ∙ sym n.bad_numbers.ensures ∙ n.if-bad_numbers.false) ticks)
 
-pub run_few-requires : goal.run_few-requires
-run_few-requires c =
-    (checked (goal.at.run_few-requires c).Else-bad_numbers, c.header_of-h.ensures, c.if-state-state_length.false ∙ c.state_length.ensures, omega (arith, c.if-most-le-FEW.true, c.larger-most.ensures), omega (arith, c.if-most-le-FEW.true, c.larger-most.ensures))
+pub run_within-requires-2-clause-room : goal.run_within-requires-2-clause-room
+run_within-requires-2-clause-room c =
+    let within = counts_within _ c.in-Ok.card.accepted c.header_of-h.ensures in
+    omega (arith, within)
 
-pub run_many-requires : goal.run_many-requires
-run_many-requires c =
-    (checked (goal.at.run_many-requires c).Else-bad_numbers, c.header_of-h.ensures, c.if-state-state_length.false ∙ c.state_length.ensures, omega (arith, c.if-most-le-MANY.true, c.larger-most.ensures), omega (arith, c.if-most-le-MANY.true, c.larger-most.ensures))
-
-pub run_most-requires : goal.run_most-requires
-run_most-requires c =
-    let within = counts_within c.args.card.now (checked (goal.at.run_most-requires c).Else-bad_numbers) c.header_of-h.ensures in
-    (checked (goal.at.run_most-requires c).Else-bad_numbers, c.header_of-h.ensures, c.if-state-state_length.false ∙ c.state_length.ensures, omega (arith, within), omega (arith, within))
-
-pub returns-then-number-ne0 : goal.returns-then-number-ne0
-returns-then-number-ne0 c =
+pub returns-in-Err : goal.returns-in-Err
+returns-in-Err c =
     let card = c.args.card.now in
     let s = c.args.state.now in
-    let n = number_of c.check-answer.result in
-    let x : n ≡ 0 → ⊥ = λ e. c.if-number-ne0.true (c.number.ensures ∙ e) in
-    rw (c.refused.ensures.0, c.refused.ensures.1) (run_refused card s (card_refused card s n c.check-answer.ensures x) x _)
+    let x = numbered c.in-Err.refusal in
+    rw (c.refused.ensures.0, c.refused.ensures.1) (run_refused card s (card_refused card s _ c.in-Err.ensures.number x) x _)
 
 pub returns-then-state-state_length : goal.returns-then-state-state_length
 returns-then-state-state_length c =
-    let card = c.args.card.now in
+    let card = c.in-Ok.card.bytes.now in
     let s = c.args.state.now in
-    let z = sym c.check-answer.ensures ∙ sym c.number.ensures ∙ c.if-number-ne0.false in
+    let z = c.in-Ok.card.accepted in
     let size = length_is card z c.header_of-h.ensures in
     let n = length_refused card s z (λ e. c.if-state-state_length.true (e ∙ sym (c.state_length.ensures ∙ size))) in
-    rw (c.refused-then-state-state_length.ensures.0, c.refused-then-state-state_length.ensures.1) (run_refused card s n (λ e. omega (arith, e)) _)
+    rw (c.refused-then-state-state_length.ensures.0, c.refused-then-state-state_length.ensures.1, ← c.in-Ok.ensures.bytes) (run_refused card s n (λ e. omega (arith, e)) _)
 
 pub returns-then-ticks-eq0 : goal.returns-then-ticks-eq0
 returns-then-ticks-eq0 c =
-    let card = c.args.card.now in
+    let card = c.in-Ok.card.bytes.now in
     let s = c.args.state.now in
-    let z = sym c.check-answer.ensures ∙ sym c.number.ensures ∙ c.if-number-ne0.false in
+    let z = c.in-Ok.card.accepted in
     let size = length_is card z c.header_of-h.ensures in
     let len = c.if-state-state_length.false ∙ c.state_length.ensures ∙ size in
-    rw (c.refused-then-ticks-eq0.ensures.0, c.refused-then-ticks-eq0.ensures.1) (run_none card s (start_passed card s z len) c.if-ticks-eq0.true)
+    rw (← c.in-Ok.ensures.bytes) (run_none card s (start_passed card s z len) c.if-ticks-eq0.true)
 
 pub returns-then-bad_numbers : goal.returns-then-bad_numbers
 returns-then-bad_numbers c =
-    let card = c.args.card.now in
+    let card = c.in-Ok.card.bytes.now in
     let s = c.args.state.now in
-    let z = sym c.check-answer.ensures ∙ sym c.number.ensures ∙ c.if-number-ne0.false in
+    let z = c.in-Ok.card.accepted in
     let size = length_is card z c.header_of-h.ensures in
     let len = c.if-state-state_length.false ∙ c.state_length.ensures ∙ size in
     let bad = numbers_are card z c.header_of-h.ensures s ∙ sym c.bad_numbers.ensures ∙ c.if-bad_numbers.true in
-    rw (c.refused-then-bad_numbers.ensures.0, c.refused-then-bad_numbers.ensures.1)
+    rw (c.refused-then-bad_numbers.ensures.0, c.refused-then-bad_numbers.ensures.1, ← c.in-Ok.ensures.bytes)
     (tick_refused card s (start_passed card s z len) (state_refused card s z len bad) (λ e. omega (arith, e)) (some c.args.ticks c.if-ticks-eq0.false))
 
 pub returns-then-most-le-FEW : goal.returns-then-most-le-FEW
-returns-then-most-le-FEW c = c.run_few.ensures ∙ ran_so (goal.at.returns-then-most-le-FEW c).Else-bad_numbers _
+returns-then-most-le-FEW c = c.run_within.ensures ∙ ran_so (goal.at.returns-then-most-le-FEW c).Else-bad_numbers _
 
 pub returns-then-most-le-MANY : goal.returns-then-most-le-MANY
-returns-then-most-le-MANY c = c.run_many.ensures ∙ ran_so (goal.at.returns-then-most-le-MANY c).Else-bad_numbers _
+returns-then-most-le-MANY c = c.run_within-then-most-le-MANY.ensures ∙ ran_so (goal.at.returns-then-most-le-MANY c).Else-bad_numbers _
 
 pub returns : goal.returns
-returns c = c.run_most.ensures ∙ ran_so (goal.at.returns c).Else-bad_numbers _
+returns c = c.run_within-2.ensures ∙ ran_so (goal.at.returns c).Else-bad_numbers _

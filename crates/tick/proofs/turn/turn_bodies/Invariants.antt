@@ -1,13 +1,10 @@
--- The first of the bodies are turned; a turn of the loop puts one more behind them.
-use Prim.Native.Nat.{◌-◌, ◌≤◌}
+-- The first of the bodies are turned.
 use mathlib.Core.Path.{◌≡◌}
-use lib.ListN.{length}
-use Rattle.tick.proofs.Turning.{turned_to}
+use Rattle.numbers.specs.Lists.{after}
+use Rattle.numbers.proofs.Rows.{fill}
+use Rattle.loader.specs.Parts.{linkage_in}
+use Rattle.tick.proofs.Turning.{turned_at}
 use Rattle.tick.proofs.turn.turn_bodies.Given as goal
 
 abbrev pub invariant-loop-i : goal.invariant-loop-i
-invariant-loop-i l =
-    (l.i ≤ l.count) × (length l.floats ≡ length l.initial.floats) × (l.floats ≡ turned_to l.own l.state l.initial.floats l.i)
-
-abbrev pub decreases-loop-i : goal.decreases-loop-i
-decreases-loop-i l = l.count - l.i
+invariant-loop-i l = l.turned ≡ after (fill (turned_at (linkage_in l.linkage) l.state)) l.initial.turned l.i

@@ -1,9 +1,0 @@
-use Rattle.card.proofs.checks.rotation_fault.Goals as goal
-
-pub returns : goal.returns
-returns c =
-    let c1 = c.before in
-    simp (
-      c1.length_squared.ensures,
-      c.off_unit.ensures,
-    )

@@ -1,0 +1,43 @@
+use Prim.Native.Nat.{ℕ, ◌≤◌}
+use native.Mathlib.Omega.{arith}
+use mathlib.Core.Path.{◌≡◌, ◌∙◌}
+use mathlib.Core.Bool.{Bool, false, ◌||◌}
+use lib.Dec.{ltb}
+use lib.Seq.{length-take-le}
+use borrow.Author.Tests.{ltb-false}
+use Rattle.card.proofs.Bools.{or_right}
+use Rattle.card.proofs.Accepted.{at_least_12}
+use Rattle.card.specs.Parts.{sizes_of}
+use Rattle.convert.specs.Parts.{length_in}
+use Rattle.convert.proofs.Starts.{small_header}
+use Rattle.convert.proofs.Accepting.{length_is, refused_16, done_16}
+use Rattle.convert.proofs.Editions.{row, size_is}
+use Rattle.convert.proofs.records.Way.convert_accepted.Goals as goal
+
+-- a slice that is not refused holds the result
+room : (large : Bool) {size n : ℕ} → (large || ltb size n) ≡ false → n ≤ size
+room large e = ltb-false _ _ (or_right large _ e)
+
+pub header_bits-h-requires : goal.header_bits-h-requires
+header_bits-h-requires c = omega (arith, at_least_12 c.args.card.bytes.now c.args.card.accepted)
+
+pub length_in-length-requires : goal.length_in-length-requires
+length_in-length-requires c = rw c.header_bits-h.ensures (small_header c.args.card.bytes.now c.args.self.from)
+
+pub returns-then-too_large-out : goal.returns-then-too_large-out
+returns-then-too_large-out c =
+    let a = c.args in
+    refused_16 (row a.self.from) (row a.self.to) a.card.bytes.now c.requires c.args.card.accepted c.header_bits-h.ensures a.out.now c.too_large.ensures c.length_in-length.ensures c.if-too_large-out.true
+
+pub write_card-requires : goal.write_card-requires
+unfolding length_in sizes_of
+write_card-requires c =
+    let a = c.args in (
+      omega (arith, size_is a.self.from, length_is (row a.self.from) (row a.self.to) a.card.bytes.now c.requires c.args.card.accepted c.header_bits-h.ensures),
+      length-take-le _ _ (room c.too_large.result c.if-too_large-out.false) ∙ c.length_in-length.ensures,
+    )
+
+pub returns : goal.returns
+returns c =
+    let a = c.args in
+    done_16 (row a.self.from) (row a.self.to) a.card.bytes.now c.requires c.args.card.accepted c.header_bits-h.ensures a.out.now c.too_large.ensures c.length_in-length.ensures c.if-too_large-out.false c.write_card.ensures

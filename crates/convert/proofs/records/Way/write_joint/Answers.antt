@@ -1,0 +1,14 @@
+use mathlib.Core.Path.{ap, ◌∙◌}
+use lib.ListN.{take, drop}
+use Rattle.convert.proofs.Starts.{small_joint, joint_written}
+use Rattle.convert.proofs.Editions.{row}
+use Rattle.convert.proofs.records.Way.write_joint.Goals as goal
+
+pub joint_bits_in-b-requires : goal.joint_bits_in-b-requires
+joint_bits_in-b-requires c =
+    rw c.joint_bits.ensures (small_joint c.args.part.now c.args.self.from)
+
+pub returns : goal.returns
+returns c =
+    let bits = c.copy_from_slice-2.ensures.after ∙ ap (λ l. take 3 (drop 1 l)) c.to_be_bytes.ensures in
+    joint_written (row c.args.self.from) (row c.args.self.to) c.args.part.now (λ i. (c.type_inv.part i).fits) c.requires.0 c.joint_bits.ensures c.joint_bits_in-b.ensures c.copy_from_slice.ensures.after bits

@@ -1,0 +1,15 @@
+use Prim.Native.Nat.{◌+◌, ◌*◌, ◌-◌}
+use native.Mathlib.Omega.{arith}
+use Rattle.convert.proofs.Pieces.{none_made, next_made}
+use Rattle.convert.proofs.Editions.{row}
+use Rattle.convert.proofs.records.Way.write_joints.Goals as goal
+
+pub loop-i-init : goal.loop-i-init
+loop-i-init c = none_made (row c.args.self.from) (row c.args.self.to) c.args.card.now c.args.at c.args.out.now
+
+pub loop-i-preserved : goal.loop-i-preserved
+loop-i-preserved c =
+    let a = c.args in
+    let i = c.loop-i.i in
+    next_made (row a.self.from) (row a.self.to) a.card.now a.at i (a.at + (123 * i + 123) - (a.at + 123 * i)) (123 * i + 123 - 123 * i) a.out.now (omega arith) (omega arith) c.loop-i.invariant
+    c.write_joint.ensures
