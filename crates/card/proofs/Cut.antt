@@ -1,25 +1,15 @@
 -- A record's own part of the card has its numbers; a row of records, one by one.
 use Prim.Native.Nat.{ℕ, zero, suc, ◌+◌, ◌*◌, ◌/◌, ◌%◌, ◌≤◌, ◌<◌}
-use native.Mathlib.Nat.{le_of_suc-le-suc, not-suc-le-zero, suc-mul}
+use native.Mathlib.Nat.{suc-mul}
 use native.Mathlib.Numerals.{add-one}
 use native.Mathlib.Omega.{arith}
 use mathlib.Core.Path.{◌≡◌, refl, ap, ◌∙◌}
 use mathlib.Core.List.{List, [], ◌∷◌, ◌++◌}
+use lib.Seq.{get_or-take, get_or-drop}
 use lib.ListN.{length, get_or, take, drop, length-take, length-drop}
 use Rattle.card.specs.Format.{bits_at, Cell, width_of, numbers_at, records_at}
 
 -- ---- lists
-
-pub get_d_take : (l : List ℕ) (n i : ℕ) → i < n → get_or (take n l) i 0 ≡ get_or l i 0
-get_d_take l zero i h = absurd (not-suc-le-zero h)
-get_d_take [] (suc n) i h = refl
-get_d_take (x ∷ l) (suc n) zero h = refl
-get_d_take (x ∷ l) (suc n) (suc i) h = get_d_take l n i (le_of_suc-le-suc h)
-
-get_d_drop : (l : List ℕ) (n i : ℕ) → get_or (drop n l) i 0 ≡ get_or l (n + i) 0
-get_d_drop l zero i = ap (λ k. get_or l k 0) (omega arith)
-get_d_drop [] (suc n) i = refl
-get_d_drop (x ∷ l) (suc n) i = let e : suc (n + i) ≡ suc n + i = omega arith in get_d_drop l n i ∙ ap (λ k. get_or (x ∷ l) k 0) e
 
 pub part_length : (l : List ℕ) (from n : ℕ) → from + n ≤ length l → n ≤ length (take n (drop from l))
 part_length l from n h = rw (length-take n (drop from l), length-drop from l) (omega arith)
@@ -33,7 +23,7 @@ module _ (l : List ℕ) (at n : ℕ) where
   byte_of : (p : ℕ) → p < 8 * n → get_or part (p / 8) 0 ≡ get_or l ((8 * at + p) / 8) 0
   byte_of p h =
       let e : (8 * at + p) / 8 ≡ at + p / 8 = omega arith in
-      get_d_take (drop at l) n (p / 8) (omega arith) ∙ get_d_drop l at (p / 8) ∙ rw e
+      get_or-take n (drop at l) (p / 8) 0 (omega arith) ∙ get_or-drop at l (p / 8) 0 ∙ rw e
 
   bits_of : (p w : ℕ) → p + w ≤ 8 * n → bits_at part p w ≡ bits_at l (8 * at + p) w
   unfolding bits_at

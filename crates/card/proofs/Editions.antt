@@ -2,11 +2,11 @@
 use Prim.Native.Nat.{ℕ, zero, suc, ◌+◌, ◌*◌, ◌-◌, ◌/◌, ◌%◌, ◌^◌, ◌≤◌}
 use native.Mathlib.Omega.{arith}
 use mathlib.Core.Path.{◌≡◌, refl, sym, ap, subst, ◌∙◌}
-use mathlib.Core.Bool.{Bool, true, false, not}
+use mathlib.Core.Bool.{Bool, true, false, not, ◌||◌}
 use mathlib.Core.List.{List, [], ◌∷◌, ◌++◌}
 use lib.ListN.{length}
 use lib.Dec.{eqb, ltb}
-use borrow.Author.Tests.{eq-eqb, ne_eqb, lt-ltb}
+use borrow.Author.Tests.{eq-eqb, ne_eqb, lt-ltb, le-ltb, ltb-false}
 use Rattle.card.specs.declared.edition.Edition as named
 use Rattle.card.specs.declared.edition.Edition.TheVariants.{One, Two}
 use Rattle.card.specs.declared.edition.EditionSizes.{EditionSizes}
@@ -16,11 +16,12 @@ use Rattle.card.specs.Format.{Range}
 use Rattle.card.specs.Format.{Bounded, NotNegative, Cap}
 use Rattle.card.specs.Format.{bits_at, Cell, width_of, numbers_at}
 use Rattle.card.specs.Card.{at, flag, always, never, bits, header, kind_of, compliant, motored, joint, Edition, edition_of, edition_at, card_of, float}
-use Rattle.card.specs.Checks.{Refusal, refuse, record_checks, card_checks, check_of}
+use Rattle.card.specs.Checks.{Refusal, refuse, first_of, record_checks, card_checks, check_of}
 use Rattle.card.specs.Parts.{edition_number, sizes_of, card_with, edition_fault, counts_fault, rate_fault, float_at, header_bits, joint_bits}
+use Rattle.card.proofs.Bools.{or_left, or_right}
 use Rattle.card.proofs.Packed.{field}
 use Rattle.card.proofs.Cells.{Row, flat, numbers-append}
-use Rattle.card.proofs.Checking.{First, applies, passes, first}
+use Rattle.card.proofs.Checking.{First, applies, passes, first, ends}
 
 -- the cells of an edition
 abbrev pub cells : named.Edition → Edition
@@ -176,6 +177,19 @@ unfolding edition_fault
 listed One = refl
 listed Two = refl
 
+-- the header and the counts of a card that 3 lets pass are small
+pub few : (e : named.Edition) (bodies joints : ℕ) → counts_fault (sizes_of e).most bodies joints ≡ false
+    → (counts_fault (sizes_of e).most bodies joints ≡ false) × ((sizes_of e).header_bytes ≤ 16) × (bodies ≤ 200) × (joints ≤ 200)
+unfolding counts_fault sizes_of
+few e bodies joints h =
+    let most = (cells e).most in
+    let first_two = or_left (eqb bodies 0 || ltb most bodies) (ltb most joints) h in (
+      h,
+      (header_bytes_lem e).1,
+      omega (arith, most_200 e, ltb-false most bodies (or_right (eqb bodies 0) (ltb most bodies) first_two)),
+      omega (arith, most_200 e, ltb-false most joints (or_right (eqb bodies 0 || ltb most bodies) (ltb most joints) h)),
+    )
+
 -- the checks from 3 on
 abbrev pub rest : named.Edition → EditionSizes → List ℕ → ℕ → ℕ → ℕ → List Refusal
 rest n sizes card bodies joints rate =
@@ -221,3 +235,25 @@ module _ (n : named.Edition) {sizes : EditionSizes} (e : sizes ≡ sizes_of n) (
 
   pub wrong_length_lem : (size ≡ bytes_length → ⊥) → not (eqb (8 * size) bits_length) ≡ true
   wrong_length_lem x = rw (ne_eqb (8 * size) bits_length (λ r. x (omega (arith, r, in_bits)))) refl
+
+-- what the checks from 3 on answer, as the code makes them
+module _ (e : named.Edition) (card : List ℕ) (en : edition_number e ≡ bits_at card 0 8) (long : 12 ≤ length card) where
+  answers : {h : HeaderBits} {n : ℕ} → h ≡ header_bits (numbers_at (cells e).header card 0) → First (rest e (sizes_of e) card h.bodies h.joints h.rate) n → n ≡ check_of card
+  answers eh f = past_2 card (le-ltb (length card) 12 long) e en refl eh f
+
+  pub refused_early : let h = header_bits (numbers_at (cells e).header card 0) in
+      let s = sizes_of e in
+      (h ≡ header_bits (numbers_at (cells e).header card 0))
+      × (counts_fault s.most h.bodies h.joints ≡ true → 3 ≡ check_of card)
+      × (counts_fault s.most h.bodies h.joints ≡ false → rate_fault s.fastest h.rate ≡ true → 4 ≡ check_of card)
+      × (counts_fault s.most h.bodies h.joints ≡ false → rate_fault s.fastest h.rate ≡ false → (length card ≡ s.header_bytes + 94 * h.bodies + 123 * h.joints → ⊥) → 5 ≡ check_of card)
+  refused_early = (
+    refl,
+    (λ c. answers refl (applies c)),
+    (λ c r. answers refl (passes c (applies r))),
+    (λ c r x. answers refl (passes c (passes r (applies (wrong_length_lem e refl _ _ _ x))))),
+  )
+
+  pub by_records : (h : HeaderBits) → h ≡ header_bits (numbers_at (cells e).header card 0) → counts_fault (sizes_of e).most h.bodies h.joints ≡ false → rate_fault (sizes_of e).fastest h.rate ≡ false
+      → length card ≡ (sizes_of e).header_bytes + 94 * h.bodies + 123 * h.joints → first_of (record_checks (cells e) (card_with (cells e) card h.bodies h.joints)) ≡ check_of card
+  by_records h eh c r l = answers eh (passes c (passes r (passes (right_length e refl _ _ _ l) (ends _ refl))))

@@ -12,3 +12,4 @@ pub mod Unused
 pub mod CheckRows
 pub mod Accepted
 pub mod Examples
+pub mod Chunks

@@ -1,5 +1,5 @@
 -- The faults of each record, as its function finds them.
-use Prim.Native.Nat.{ℕ, ◌+◌, ◌*◌, ◌-◌}
+use Prim.Native.Nat.{ℕ, zero, suc, ◌+◌, ◌*◌, ◌-◌, ◌<◌}
 use native.Mathlib.Omega.{arith}
 use mathlib.Core.Path.{◌≡◌, refl, ap, ◌∙◌}
 use mathlib.Core.Bool.{Bool, true, false, not, ◌||◌, ◌&&◌, or-false}
@@ -14,10 +14,11 @@ use Rattle.card.specs.declared.records.BodyBits.{BodyBits}
 use Rattle.card.specs.declared.records.JointBits.{JointBits}
 use Rattle.card.specs.declared.kinds.JointKind.{JointKind}
 use Rattle.card.specs.declared.checks.Faults.{Faults}
-use Rattle.card.specs.Format.{bound, Cell, width_of, numbers_at, any_cell, unused_set, out_of}
+use Rattle.card.specs.Format.{bits_at, bound, Cell, width_of, numbers_at, any_cell, unused_set, out_of}
 use Rattle.card.specs.Card.{at, flag, always, never, bits, header, moving, body, motored}
 use Rattle.card.specs.Checks.{misfit, too_wide, reversed, off_unit, off_axis}
 use Rattle.card.specs.Parts.{float_at, vec3_at, quat_at, wide_at, limit_at, norms_at, header_bits, body_bits, joint_bits, kind_for, any_to, set_at, outside_at, used_out, faults, field_faults, header_faults, body_faults, joint_faults}
+use Rattle.card.proofs.Packed.{below}
 use Rattle.card.proofs.Cells.{Row, cell_of, any_at, fieldwise, record_fieldwise}
 use Rattle.card.proofs.Cells as cells
 use Rattle.card.proofs.Editions.{row, header_cells, header_rows, HeaderOf, joint_cells, joint_rows, JointOf, joint_numbers_lem}
@@ -73,7 +74,7 @@ abbrev body_rows : List Row
 body_rows = row 10 always Bounded ∷ row 6 moving Bounded ∷ row 1 moving NotNegative ∷ row 6 moving Bounded ∷ []
 
 abbrev body_own : BodyBits → Bool
-body_own b = b.anchored && (is_set b.lock_x || is_set b.lock_y || is_set b.lock_z || is_set b.dominance) || is_set b.zero
+body_own b = b.anchored && (b.lock_x || b.lock_y || b.lock_z || is_set b.dominance) || is_set b.zero
 
 abbrev body_fields : List ℕ → BodyBits → Faults
 body_fields l b =
@@ -92,14 +93,22 @@ own_bits true false false false true o = refl
 own_bits true false false false false o = or-false o
 own_bits false x y z d o = or-false o
 
+-- a bit that is not 0 is 1
+one_bit : (l : List ℕ) (p : ℕ) → is_set (bits_at l p 1) ≡ eqb (bits_at l p 1) 1
+one_bit l p = of_two (bits_at l p 1) (below l p 1)
+  where
+    of_two : (n : ℕ) → n < 2 → is_set n ≡ eqb n 1
+    of_two zero h = refl
+    of_two (suc zero) h = refl
+    of_two (suc (suc n)) h = absurd (omega arith)
+
 module _ (l : List ℕ) where
   abbrev body_numbers_lem : List ℕ
   body_numbers_lem = numbers_at body l 0
 
   body_first : any_at (unused body_numbers_lem) l body_cells 0 ≡ body_own (body_bits body_numbers_lem)
   unfolding body_bits numbers_at
-  body_first =
-      own_bits (flag 0 body_numbers_lem) (is_set (at 1 body_numbers_lem)) (is_set (at 2 body_numbers_lem)) (is_set (at 3 body_numbers_lem)) (is_set (at 4 body_numbers_lem)) (is_set (at 5 body_numbers_lem))
+  body_first = rw (one_bit l 1, one_bit l 2, one_bit l 3) (own_bits (flag 0 body_numbers_lem) (flag 1 body_numbers_lem) (flag 2 body_numbers_lem) (flag 3 body_numbers_lem) (is_set (at 4 body_numbers_lem)) (is_set (at 5 body_numbers_lem)))
 
   body_unused : unused_set body body_numbers_lem ≡ (body_fields l (body_bits body_numbers_lem)).bits
   unfolding field_faults set_at body_bits

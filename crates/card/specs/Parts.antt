@@ -72,7 +72,7 @@ header_bits ns = record { bodies = at 1 ns; joints = at 2 ns; rate = at 3 ns; ze
 
 unfoldable pub body_bits : List ℕ → BodyBits
 body_bits ns =
-    record { anchored = flag 0 ns; lock_x = at 1 ns; lock_y = at 2 ns; lock_z = at 3 ns; dominance = at 4 ns; zero = at 5 ns }
+    record { anchored = flag 0 ns; lock_x = flag 1 ns; lock_y = flag 2 ns; lock_z = flag 3 ns; dominance = at 4 ns; zero = at 5 ns }
 
 unfoldable pub joint_bits : List ℕ → JointBits
 joint_bits ns =

@@ -1,12 +1,10 @@
 // The refusals of a card. The records are looked at once, each for all that is checked of it; the answer is the first check that a record fails.
 ghost use Rattle.std.specs.Prelude.{◌≡◌, ◌+◌, ◌*◌, ◌≤◌, ◌<◌, length, IfOk};
-ghost use Rattle.vector.specs.Vector.{length_squared_of};
-ghost use Rattle.vector.specs.Rotation.{norm_squared_of};
 ghost use Rattle.card.specs.Format.{numbers_at, records_at};
 ghost use Rattle.card.specs.Card.{at, body, edition_of};
 ghost use Rattle.card.specs.Answer.{number_of};
 ghost use Rattle.card.specs.Checks.{any, off_unit, wrong_pair, first_of, record_checks, check_of};
-ghost use Rattle.card.specs.Parts.{edition_number, sizes_of, card_with, counts_fault, rate_fault, any_to, set_at, outside_at, or_faults, field_faults, header_faults, body_faults, joint_faults, faults_of, wide_at, limit_at, norms_at};
+ghost use Rattle.card.specs.Parts.{edition_number, sizes_of, card_with, counts_fault, rate_fault, or_faults, field_faults, header_faults, body_faults, joint_faults, faults_of, wide_at, limit_at, norms_at};
 
 use crate::accepted_card::Accepted;
 use crate::bits::{bits8_at, bits32_at, float_at, quat_at, vec3_at};
@@ -17,26 +15,10 @@ use crate::layout::{
     INV_INERTIA, INV_MASS, JOINT_BYTES, LEAST_BYTES, LIMIT1, LIMIT2, LINEAR_VELOCITY, MOTOR,
     NOT_NEGATIVE, POSITION, ROTATION, SLOWEST, WARM_COEFFICIENT, WIDEST_ANGLE,
 };
-use crate::records::{body_bits, header_bits, joint_bits};
+use crate::records::{BodyRecord, JointRecord, body_bits, header_bits, joint_bits};
 use crate::refusal::Refusal;
 use scalar::outside;
-use vector::{Quat, Vec3};
-
-// Whether a bit of so many floats is set.
-fn any_set(part: &[u8], at: usize, count: usize) -> bool
-    requires { at + 4 * count ≤ length part.now }
-    ensures { result ≡ any_to (set_at part.now at) count }
-{
-    (0..count).any(|n| bits32_at(part, at + 4 * n) != 0)
-}
-
-// Whether one of so many floats is out of bounds.
-fn any_outside(part: &[u8], bounds: Bounds, at: usize, count: usize) -> bool
-    requires { at + 4 * count ≤ length part.now }
-    ensures { result ≡ any_to (outside_at part.now bounds.low bounds.high at) count }
-{
-    (0..count).any(|n| outside(float_at(part, at + 4 * n), bounds.low, bounds.high))
-}
+use std::ops::BitOr;
 
 // Which of the checks a record fails by itself, or one of several records.
 #[derive(Clone, Copy)]
@@ -55,6 +37,24 @@ pub struct Faults {
     pub norms: bool,
 }
 
+impl BitOr for Faults {
+    type Output = Faults;
+
+    ghost bitor_gives = { λ a b r. r ≡ or_faults a b };
+
+    #[tactic(auto, unfolding(crate::specs::Parts::or_faults))]
+    fn bitor(self, other: Faults) -> Faults {
+        Faults {
+            bits: self.bits | other.bits,
+            dominance: self.dominance | other.dominance,
+            floats: self.floats | other.floats,
+            angles: self.angles | other.angles,
+            limits: self.limits | other.limits,
+            norms: self.norms | other.norms,
+        }
+    }
+}
+
 impl Faults {
     const NONE: Faults = Faults {
         bits: false,
@@ -65,38 +65,30 @@ impl Faults {
         norms: false,
     };
 
-    #[tactic(auto, unfolding(crate::specs::Parts::or_faults))]
-    fn or(self, other: Faults) -> Faults
-        ensures { result ≡ or_faults self other }
-    {
-        Faults {
-            bits: self.bits | other.bits,
-            dominance: self.dominance | other.dominance,
-            floats: self.floats | other.floats,
-            angles: self.angles | other.angles,
-            limits: self.limits | other.limits,
-            norms: self.norms | other.norms,
-        }
-    }
-
     // With the faults of so many floats, which have use or not, and bounds. Without use a float is zero, and so in bounds, or it is refused by 6 before 7.
     fn field(self, part: &[u8], used: bool, bounds: Bounds, at: usize, count: usize) -> Faults
         requires { at + 4 * count ≤ length part.now }
         ensures { result ≡ field_faults self part.now used bounds.low bounds.high at count }
     {
         if used {
+            let beyond = (0..count).any(|n| {
+                let x = float_at(part, at + 4 * n);
+                outside(x, bounds.low, bounds.high)
+            });
             return Faults {
-                floats: self.floats | any_outside(part, bounds, at, count),
+                floats: self.floats | beyond,
                 ..self
             };
         }
+        let set = (0..count).any(|n| bits32_at(part, at + 4 * n) != 0);
         Faults {
-            bits: self.bits | any_set(part, at, count),
+            bits: self.bits | set,
             ..self
         }
     }
 }
 
+#[tactic(auto, using(crate::proofs::Editions::header_bytes_lem))]
 fn header_faults(part: &[u8], edition: Edition) -> Faults
     requires { (sizes_of edition).header_bytes ≤ length part.now }
     ensures { result ≡ header_faults (edition_of (edition_number edition)).header (numbers_at (edition_of (edition_number edition)).header part.now 0) }
@@ -119,116 +111,107 @@ fn off_unit(s: f32) -> bool
     outside(s, 0.9990234375, 1.0009765625)
 }
 
-fn axis_fault(v: Vec3) -> bool
-    ensures { result ≡ off_unit (length_squared_of v) }
-{
-    off_unit(v.length_squared())
-}
-
-fn rotation_fault(q: Quat) -> bool
-    ensures { result ≡ off_unit (norm_squared_of q) }
-{
-    off_unit(q.length_squared())
-}
-
-fn body_faults(part: &[u8]) -> Faults
-    requires { 94 ≤ length part.now }
-    ensures { result ≡ body_faults (numbers_at body part.now 0) }
-{
-    let b = body_bits(part);
-    let moving = !b.anchored;
-    let locked = (b.lock_x != 0) | (b.lock_y != 0) | (b.lock_z != 0);
-    let f = Faults {
-        bits: b.anchored & (locked | (b.dominance != 0)) | (b.zero != 0),
-        dominance: b.dominance != 0,
-        ..Faults::NONE
-    };
-    let g = f
-        .field(part, true, BOUNDED, POSITION, 10)
-        .field(part, moving, BOUNDED, LINEAR_VELOCITY, 6)
-        .field(part, moving, NOT_NEGATIVE, INV_MASS, 1)
-        .field(part, moving, BOUNDED, INV_INERTIA, 6);
-    Faults {
-        norms: rotation_fault(quat_at(part, ROTATION)),
-        ..g
+impl<'a> BodyRecord<'a> {
+    fn faults(self) -> Faults
+        ensures { result ≡ body_faults (numbers_at body self.entry.bytes.now 0) }
+    {
+        let part = self.bytes;
+        let b = body_bits(part);
+        let moving = !b.anchored;
+        let locked = b.lock_x | b.lock_y | b.lock_z;
+        let f = Faults {
+            bits: b.anchored & (locked | (b.dominance != 0)) | (b.zero != 0),
+            dominance: b.dominance != 0,
+            ..Faults::NONE
+        };
+        let g = f
+            .field(part, true, BOUNDED, POSITION, 10)
+            .field(part, moving, BOUNDED, LINEAR_VELOCITY, 6)
+            .field(part, moving, NOT_NEGATIVE, INV_MASS, 1)
+            .field(part, moving, BOUNDED, INV_INERTIA, 6);
+        Faults {
+            norms: off_unit(quat_at(part, ROTATION).length_squared()),
+            ..g
+        }
     }
 }
 
-// Whether the min at a place or the max behind it is over the largest angle in size.
-#[tactic(auto, unfolding(crate::specs::Parts::wide_at))]
-fn wide_fault(part: &[u8], at: usize) -> bool
-    requires { at + 8 ≤ length part.now }
-    ensures { result ≡ wide_at part.now at }
-{
-    let min = float_at(part, at);
-    let max = float_at(part, at + 4);
-    outside(min, -WIDEST_ANGLE, WIDEST_ANGLE) | outside(max, -WIDEST_ANGLE, WIDEST_ANGLE)
-}
+impl<'a> JointRecord<'a> {
+    // Whether the min at a place or the max behind it is over the largest angle in size.
+    #[tactic(auto, unfolding(crate::specs::Parts::wide_at))]
+    fn wide_fault(self, at: usize) -> bool
+        requires { at + 8 ≤ 123 }
+        ensures { result ≡ wide_at self.entry.bytes.now at }
+    {
+        let min = float_at(self.bytes, at);
+        let max = float_at(self.bytes, at + 4);
+        outside(min, -WIDEST_ANGLE, WIDEST_ANGLE) | outside(max, -WIDEST_ANGLE, WIDEST_ANGLE)
+    }
 
-// Whether the min at a place is above the max behind it.
-#[tactic(auto, unfolding(crate::specs::Parts::limit_at))]
-fn limit_fault(part: &[u8], at: usize) -> bool
-    requires { at + 8 ≤ length part.now }
-    ensures { result ≡ limit_at part.now at }
-{
-    float_at(part, at) > float_at(part, at + 4)
-}
+    // Whether the min at a place is above the max behind it.
+    #[tactic(auto, unfolding(crate::specs::Parts::limit_at))]
+    fn limit_fault(self, at: usize) -> bool
+        requires { at + 8 ≤ 123 }
+        ensures { result ≡ limit_at self.entry.bytes.now at }
+    {
+        float_at(self.bytes, at) > float_at(self.bytes, at + 4)
+    }
 
-#[tactic(auto, unfolding(crate::specs::Parts::norms_at))]
-fn norms_fault(part: &[u8], bases: bool, axis: bool) -> bool
-    requires { 123 ≤ length part.now }
-    ensures { result ≡ norms_at part.now bases axis }
-{
-    let first = rotation_fault(quat_at(part, BASIS1));
-    let second = rotation_fault(quat_at(part, BASIS2));
-    bases & (first | second) | axis & axis_fault(vec3_at(part, AXIS))
-}
+    #[tactic(auto, unfolding(crate::specs::Parts::norms_at))]
+    fn norms_fault(self, bases: bool, axis: bool) -> bool
+        ensures { result ≡ norms_at self.entry.bytes.now bases axis }
+    {
+        let first = off_unit(quat_at(self.bytes, BASIS1).length_squared());
+        let second = off_unit(quat_at(self.bytes, BASIS2).length_squared());
+        bases & (first | second) | axis & off_unit(vec3_at(self.bytes, AXIS).length_squared())
+    }
 
-fn joint_faults(part: &[u8], edition: Edition) -> Faults
-    requires { 123 ≤ length part.now }
-    ensures { result ≡ joint_faults (edition_of (edition_number edition)).joint (numbers_at (edition_of (edition_number edition)).joint part.now 0) }
-{
-    let b = joint_bits(part, edition);
-    let motor = b.motor != 0;
-    let kind = kind_of(b.kind, b.first, b.second, motor);
-    let many = kind.compliances;
-    let f = Faults {
-        bits: b.zero != 0,
-        ..Faults::NONE
-    };
-    let g = f
-        .field(part, true, BOUNDED, ANCHOR1, 6)
-        .field(part, kind.bases, BOUNDED, BASIS1, 8)
-        .field(part, kind.axis, BOUNDED, AXIS, 3)
-        .field(part, 0 < many, NOT_NEGATIVE, COMPLIANCES, 1)
-        .field(part, 1 < many, NOT_NEGATIVE, COMPLIANCES + 4, 1)
-        .field(part, 2 < many, NOT_NEGATIVE, COMPLIANCES + 8, 1)
-        .field(part, 3 < many, NOT_NEGATIVE, COMPLIANCES + 12, 1)
-        .field(part, b.first, BOUNDED, LIMIT1, 2)
-        .field(part, b.second, BOUNDED, LIMIT2, 2)
-        // target velocity and position, cap, two model floats
-        .field(part, motor, BOUNDED, MOTOR, 2)
-        .field(part, motor, CAP, MOTOR + 8, 1)
-        .field(part, motor, BOUNDED, MOTOR + 12, 2);
-    Faults {
-        bits: g.bits | !kind.fits,
-        angles: kind.angles & (wide_fault(part, LIMIT1) | wide_fault(part, LIMIT2)),
-        limits: limit_fault(part, LIMIT1) | limit_fault(part, LIMIT2),
-        norms: norms_fault(part, kind.bases, kind.axis),
-        ..g
+    fn faults(self, edition: Edition) -> Faults
+        ensures { result ≡ joint_faults (edition_of (edition_number edition)).joint (numbers_at (edition_of (edition_number edition)).joint self.entry.bytes.now 0) }
+    {
+        let part = self.bytes;
+        let b = joint_bits(part, edition);
+        let motor = b.motor != 0;
+        let kind = kind_of(b.kind, b.first, b.second, motor);
+        let many = kind.compliances;
+        let f = Faults {
+            bits: b.zero != 0,
+            ..Faults::NONE
+        };
+        let g = f
+            .field(part, true, BOUNDED, ANCHOR1, 6)
+            .field(part, kind.bases, BOUNDED, BASIS1, 8)
+            .field(part, kind.axis, BOUNDED, AXIS, 3)
+            .field(part, 0 < many, NOT_NEGATIVE, COMPLIANCES, 1)
+            .field(part, 1 < many, NOT_NEGATIVE, COMPLIANCES + 4, 1)
+            .field(part, 2 < many, NOT_NEGATIVE, COMPLIANCES + 8, 1)
+            .field(part, 3 < many, NOT_NEGATIVE, COMPLIANCES + 12, 1)
+            .field(part, b.first, BOUNDED, LIMIT1, 2)
+            .field(part, b.second, BOUNDED, LIMIT2, 2)
+            // target velocity and position, cap, two model floats
+            .field(part, motor, BOUNDED, MOTOR, 2)
+            .field(part, motor, CAP, MOTOR + 8, 1)
+            .field(part, motor, BOUNDED, MOTOR + 12, 2);
+        Faults {
+            bits: g.bits | !kind.fits,
+            angles: kind.angles & (self.wide_fault(LIMIT1) | self.wide_fault(LIMIT2)),
+            limits: self.limit_fault(LIMIT1) | self.limit_fault(LIMIT2),
+            norms: self.norms_fault(kind.bases, kind.axis),
+            ..g
+        }
     }
 }
 
-// Of so many bodies from `at` on.
+// Of so many bodies from `at` on. The card and a place, and no slice of the rows alone: each clause would have to say where the card has it.
 // The loop stands twice, for bodies and joints: over a closure its contract would be longer than both loops.
 fn bodies_faults(card: &[u8], at: usize, count: usize) -> Faults
     requires { at + 94 * count ≤ length card.now }
     ensures { result ≡ faults_of body_faults (records_at body card.now (8 * at) count) }
 {
     let mut f = Faults::NONE;
-    for i in 0..count {
-        let from = at + BODY_BYTES * i;
-        f = f.or(body_faults(&card[from..from + BODY_BYTES]));
+    for part in card[at..at + BODY_BYTES * count].chunks_exact(BODY_BYTES) {
+        let record = BodyRecord { bytes: part };
+        f = f | record.faults();
     }
     f
 }
@@ -239,14 +222,15 @@ fn joints_faults(card: &[u8], edition: Edition, at: usize, count: usize) -> Faul
     ensures { result ≡ faults_of (joint_faults (edition_of (edition_number edition)).joint) (records_at (edition_of (edition_number edition)).joint card.now (8 * at) count) }
 {
     let mut f = Faults::NONE;
-    for j in 0..count {
-        let from = at + JOINT_BYTES * j;
-        f = f.or(joint_faults(&card[from..from + JOINT_BYTES], edition));
+    for part in card[at..at + JOINT_BYTES * count].chunks_exact(JOINT_BYTES) {
+        let record = JointRecord { bytes: part };
+        f = f | record.faults(edition);
     }
     f
 }
 
 // A missing body, one body twice, or two anchored ones; the bodies begin at a place.
+#[tactic(auto, using(crate::proofs::Cut::records_length))]
 fn pair_fault(card: &[u8], at: usize, bodies: usize, a: usize, b: usize) -> bool
     requires { at + 94 * bodies ≤ length card.now }
     ensures { result ≡ wrong_pair (records_at body card.now (8 * at) bodies) a b }
@@ -279,11 +263,12 @@ fn any_pair_fault(
     requires { (bodies_at + 94 * bodies ≤ length card.now) × (joints_at + 123 * joints ≤ length card.now) }
     ensures { result ≡ any (λ j. wrong_pair (records_at body card.now (8 * bodies_at) bodies) (at 1 j) (at 2 j)) (records_at (edition_of (edition_number edition)).joint card.now (8 * joints_at) joints) }
 {
-    (0..joints).any(|j| {
-        let from = joints_at + JOINT_BYTES * j;
-        let b = joint_bits(&card[from..from + JOINT_BYTES], edition);
-        pair_fault(card, bodies_at, bodies, b.body1, b.body2)
-    })
+    card[joints_at..joints_at + JOINT_BYTES * joints]
+        .chunks_exact(JOINT_BYTES)
+        .any(|part| {
+            let b = joint_bits(part, edition);
+            pair_fault(card, bodies_at, bodies, b.body1, b.body2)
+        })
 }
 
 // No bodies, or too many bodies or joints.
@@ -302,6 +287,7 @@ fn rate_fault(fastest: u32, rate: u32) -> bool
 }
 
 // The checks from 6 on, of a card with so many bodies and joints.
+#[tactic(auto, using(crate::proofs::CheckRows::checks_are))]
 fn check_records(card: &[u8], edition: Edition, bodies: usize, joints: usize) -> Result<(), Refusal>
     requires { length card.now ≡ (sizes_of edition).header_bytes + 94 * bodies + 123 * joints }
     ensures { number_of result ≡ first_of (record_checks (edition_of (edition_number edition)) (card_with (edition_of (edition_number edition)) card.now bodies joints)) }
@@ -336,6 +322,7 @@ fn check_records(card: &[u8], edition: Edition, bodies: usize, joints: usize) ->
 }
 
 // The card, or the first of the refusals that applies to it.
+#[tactic(auto, using(crate::proofs::Editions::few, crate::proofs::Editions::refused_early, crate::proofs::Editions::by_records))]
 pub fn check(card: &[u8]) -> Result<Accepted<'_>, Refusal>
     ensures number { number_of result ≡ check_of card.now }
     ensures bytes { IfOk result (λ accepted. accepted.bytes.now ≡ card.now) }

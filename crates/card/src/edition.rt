@@ -27,6 +27,7 @@ impl TryFrom<u32> for Edition {
 
     ghost try_from_gives = { λ n r. MatchResult r (λ edition. edition_number edition ≡ n) (λ refusal. (refusal ≡ WrongEdition) × IsTrue (edition_fault n)) };
 
+    #[tactic(auto, using(crate::proofs::Editions::other))]
     fn try_from(n: u32) -> Result<Edition, Refusal> {
         match n {
             1 => Ok(Edition::One),
@@ -37,6 +38,7 @@ impl TryFrom<u32> for Edition {
 }
 
 impl Edition {
+    #[tactic(auto, using(crate::proofs::Accepted::at_least_12))]
     pub fn of(card: Accepted) -> Edition
         ensures { edition_number result ≡ bits_at card.entry.bytes.now 0 8 }
     {

@@ -27,6 +27,7 @@ fn kind_with(bases: bool, axis: bool, angles: bool, compliances: u32, fits: bool
 }
 
 // Of a joint that has a first limit, a second limit and a motor, or has not.
+#[tactic(auto, unfolding(crate::specs::Parts::kind_for, crate::specs::Card::kind_at))]
 pub fn kind_of(kind: u32, first: bool, second: bool, motor: bool) -> JointKind
     ensures { result ≡ kind_for kind first second motor }
 {

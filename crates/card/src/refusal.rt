@@ -5,7 +5,7 @@ ghost use Rattle.card.specs.Answer.{refusal_number, number_of, refused};
 use std::error::Error;
 use std::fmt;
 
-#[derive(Clone, Copy, Debug, PartialEq, Eq)]
+#[derive(Clone, Copy, Debug)]
 pub enum Refusal {
     ShortCard = 1,
     WrongEdition = 2,

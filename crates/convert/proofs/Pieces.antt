@@ -46,10 +46,6 @@ module _ {from to : ℕ} (a : Row from) (b : Row to) (card : List ℕ) (at : ℕ
   made_length i =
       pieces_length (record_bytes (edition_of to).joint) 123 (record_length (edition_of to).joint 123 (joint_width_is b)) (records_at cs card (8 * at) i) ∙ rw (records_length cs card (8 * at) i)
 
-  pub none_made : (l : List ℕ) → l ≡ made 0 ++ drop (123 * 0) l
-  unfolding records_at concat
-  none_made l = refl
-
   pub next_made : (i n m : ℕ) (l : List ℕ) {out new : List ℕ} → n ≡ 123 → m ≡ 123 → out ≡ made i ++ drop (123 * i) l
       → new ≡ record_bytes (edition_of to).joint (numbers_at cs (take n (drop (at + 123 * i) card)) 0)
       → take (123 * i) out ++ (new ++ drop m (drop (123 * i) out)) ≡ made (i + 1) ++ drop (123 * (i + 1)) l
@@ -84,9 +80,6 @@ rows_written from to card small at bodies joints out {bytes} {new} long room ec 
     rw (front, none_behind copied n, append-nil new, en, rows, place)
 
 -- ---- a card
-
-pub header_size : {s t : EditionSizes} → s ≡ t → s.header_bytes ≡ t.header_bytes
-header_size e = ap (λ s. s.header_bytes) e
 
 module _ (e t : named.Edition) (card : List ℕ) (bodies joints : ℕ) {r w : EditionSizes} (er : r ≡ sizes_of e) (ew : w ≡ sizes_of t) where
   abbrev from : ℕ

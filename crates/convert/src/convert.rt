@@ -18,6 +18,7 @@ use card::records::{HeaderBits, header_bits};
 use card::refusal::Refusal;
 
 // How many bytes a card with such a header has in an edition.
+#[tactic(auto, using(card::proofs::Editions::header_bytes_lem), unfolding(crate::specs::Parts::length_in, card::specs::Parts::sizes_of))]
 fn length_in(h: HeaderBits, edition: Edition) -> usize
     requires { SmallHeader h }
     ensures { result ≡ length_in (edition_number edition) h }
@@ -27,6 +28,7 @@ fn length_in(h: HeaderBits, edition: Edition) -> usize
 }
 
 // More bodies or joints than an edition has, or a faster rate.
+#[tactic(auto, unfolding(crate::specs::Parts::too_large_in, card::specs::Parts::sizes_of))]
 fn too_large(h: HeaderBits, edition: Edition) -> bool
     ensures { result ≡ too_large_in (edition_number edition) h }
 {
@@ -35,6 +37,7 @@ fn too_large(h: HeaderBits, edition: Edition) -> bool
 }
 
 // The card's own refusals, with any edition but one.
+#[tactic(auto, using(crate::proofs::Answers::own_answer))]
 fn check_edition(card: &[u8], edition: Edition) -> Result<Accepted<'_>, Refusal>
     ensures number { number_of result ≡ first_of (own_checks (edition_number edition) card.now) }
     ensures bytes { IfOk result (λ accepted. accepted.bytes.now ≡ card.now) }
@@ -50,6 +53,7 @@ fn check_edition(card: &[u8], edition: Edition) -> Result<Accepted<'_>, Refusal>
 
 impl Way {
     // Of a card of the edition that the way starts from.
+    #[tactic(auto, using(card::proofs::Accepted::at_least_12, crate::proofs::Starts::small_header))]
     fn convert_accepted(self, card: Accepted, out: &mut [u8]) -> Result<usize, Refusal>
         requires { bits_at card.bytes.now 0 8 ≡ edition_number self.from }
         ensures { conversion (number_of result) (result_unwrap_or result 0) out.new ≡ unless_refused (conversion_check (edition_number self.to) card.entry.bytes.now out.old ∷ []) (converted (edition_number self.to) card.entry.bytes.now) out.old }
@@ -70,7 +74,7 @@ impl Way {
     }
 }
 
-// How many bytes the result has.
+// How many bytes the result has. Each way is a call for C.
 pub fn to_edition_2(card: &[u8], out: &mut [u8]) -> Result<usize, Refusal>
     ensures { conversion (number_of result) (result_unwrap_or result 0) out.new ≡ convert_of 1 2 card.now out.old }
 {

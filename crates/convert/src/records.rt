@@ -38,6 +38,7 @@ fn write_header_bits(h: HeaderBits, edition: Edition, out: &mut [u8])
 }
 
 // The bits before a joint's floats, by edition too.
+#[tactic(auto, unfolding(crate::specs::Parts::joint_start, crate::specs::Parts::bit_of, crate::specs::Convert::packed, card::specs::Card::edition_of))]
 fn joint_bits_in(j: JointBits, edition: Edition) -> u32
     requires { SmallJoint j }
     ensures { result ≡ joint_start (edition_number edition) j }
@@ -71,6 +72,7 @@ pub struct Way {
 
 impl Way {
     // The floats at a header's end keep their bytes.
+    #[tactic(auto, using(card::proofs::Editions::header_bytes_lem, crate::proofs::Starts::small_header))]
     fn write_header(self, part: &[u8], out: &mut [u8])
         requires { (length part.now ≡ (sizes_of self.from).header_bytes) × (length out.old ≡ (sizes_of self.to).header_bytes) }
         ensures { out.new ≡ record_bytes (edition_of (edition_number self.to)).header (set (numbers_at (edition_of (edition_number self.from)).header part.now 0) 0 (edition_number self.to)) }
@@ -82,6 +84,7 @@ impl Way {
         write_header_bits(h, self.to, out);
     }
 
+    #[tactic(auto, using(crate::proofs::Starts::small_joint))]
     fn write_joint(self, part: &[u8], out: &mut [u8])
         requires { (length part.now ≡ 123) × (length out.old ≡ 123) }
         ensures { out.new ≡ record_bytes (edition_of (edition_number self.to)).joint (numbers_at (edition_of (edition_number self.from)).joint part.now 0) }
@@ -92,6 +95,8 @@ impl Way {
     }
 
     // Of so many joints, from a place of the card on.
+    // By place: after `chunks_exact_mut` a proof knows the slice's length alone (tried: `returns` stays open), and beside a place in `out`, `enumerate` over the card's chunks is no plainer.
+    #[tactic(auto, unfolding(card::specs::Format::records_at, numbers::specs::Lists::concat))]
     fn write_joints(self, card: &[u8], at: usize, joints: usize, out: &mut [u8])
         requires { (at + 123 * joints ≤ length card.now) × (length out.old ≡ 123 * joints) }
         ensures { out.new ≡ concat (map (record_bytes (edition_of (edition_number self.to)).joint) (records_at (edition_of (edition_number self.from)).joint card.now (8 * at) joints)) }

@@ -19,13 +19,13 @@ use Rattle.card.specs.Card.{flag, Card, card_of}
 use Rattle.card.specs.Checks.{first_of, check_of}
 use Rattle.loader.specs.Linkage.{Linkage, body_in, body_of, start_body, linkage_of}
 use Rattle.state.specs.State.{body_at, numbers_of, start_state, start_checks, start_of}
+use Rattle.state.proofs.Rows.{body_part, part_read}
 use Rattle.tick.specs.Body.{turned_body}
 use Rattle.tick.specs.Tick.{turned_linkage, solved, new_body, new_state}
 use Rattle.tick.specs.Run.{Ran, tick_of, tick_next, run_of}
 use Rattle.tick.proofs.Turning.{bodies_turned, body_turned}
 use Rattle.demand.specs.Demand.{Call, start, tick, ticks, leaves, after_calls, CardOrRefused, AnchoredKept}
 use Rattle.demand.proofs.Checks.{start_passed, tick_passed}
-use Rattle.demand.proofs.Rows.{body_part, part_read}
 
 -- ---- the start, and a tick
 

@@ -1,4 +1,3 @@
-pub mod Rows
 pub mod Checks
 pub mod Calm
 pub mod Anchored

@@ -25,6 +25,7 @@ pub extern "C" fn linkage_check(card: &[u8]) -> u32
 
 // How many bodies and joints a card has, and how many numbers its state; zeros where it is refused.
 #[unsafe(no_mangle)]
+#[tactic(auto, using(state::proofs::Few::few))]
 pub extern "C" fn linkage_sizes(
     card: &[u8],
     bodies: &mut u32,

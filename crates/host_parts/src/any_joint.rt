@@ -1,6 +1,6 @@
 // A joint of any kind: its prepared numbers, and the tick's own warm start and solve of it, and the tick's projections.
 //
-// A joint's call takes the card's kind, its limit bits (first 1, second 2), its motor, which body is anchored (0 none, 1, 2), both bodies' locks,
+// By numbers of kinds and motors, since a call for C can have no others. A joint's call takes the card's kind, its limit bits (first 1, second 2), its motor, which body is anchored (0 none, 1, 2), both bodies' locks,
 // and 95 numbers: the joint's 30 in the card's order, two poses (20), the last tick's motor total (3), two bodies (26), two inertias (14), the warm
 // coefficient and dt.
 ghost use Rattle.std.specs.Prelude.{IfSome};
@@ -26,7 +26,8 @@ use xpbd_joints::prismatic::PrismaticJointSolverData;
 use xpbd_joints::revolute::RevoluteJointSolverData;
 use xpbd_joints::spherical::SphericalJointSolverData;
 
-// A joint's 30 numbers: the fourth compliance, which no kind here has, is left out of what is made of them.
+// A joint's 30 numbers: the fourth compliance, which no kind here has, is left out of what is made of them. By kind as in the loader, whose record is bytes and whose
+// limits are the card's: a trait for either's numbers would be longer than the five functions.
 #[derive(Clone, Copy)]
 struct JointNumbers {
     frame1: JointFrame,
@@ -365,9 +366,7 @@ pub extern "C" fn linkage_project(input: &[f32], output: &mut [f32]) -> u32 {
 // The dummy body and the dummy inertia (23).
 #[unsafe(no_mangle)]
 pub extern "C" fn linkage_dummy(output: &mut [f32]) -> u32 {
-    if output.len() != 23 {
-        return 1;
-    }
-    (SolverBody::DUMMY, SolverBodyInertia::DUMMY).write(&mut output.iter_mut());
-    0
+    convert(&[], 0, output, 23, |()| {
+        (SolverBody::DUMMY, SolverBodyInertia::DUMMY)
+    })
 }

@@ -96,7 +96,7 @@ impl FromNumbers for MotorNumbers {
 }
 
 impl MotorNumbers {
-    // The card's 1, 2 and 3; any other is as 3.
+    // The card's 1, 2 and 3; any other is as 3. As in the loader, whose numbers are bytes.
     fn motor_model(self, model: u32) -> MotorModel {
         let (a, b) = self.model;
         match model {

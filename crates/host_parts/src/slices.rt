@@ -13,7 +13,8 @@ pub trait ToNumbers {
     fn write(self, to: &mut IterMut<'_, f32>);
 }
 
-// From so many numbers to so many: 1, and nothing is written, where a slice has another length, else 0.
+// From so many numbers to so many: 1, and nothing is written, where a slice has another length, else 0. The lengths are no constants of the types, since a pair's
+// would be a sum that has to be shown to fit.
 pub fn convert<I: FromNumbers, O: ToNumbers, F: FnOnce(I) -> O>(
     input: &[f32],
     inputs: usize,
@@ -28,6 +29,10 @@ pub fn convert<I: FromNumbers, O: ToNumbers, F: FnOnce(I) -> O>(
     }
     f(I::read(&mut input.iter())).write(&mut output.iter_mut());
     0
+}
+
+impl FromNumbers for () {
+    fn read(_: &mut Iter<'_, f32>) {}
 }
 
 impl FromNumbers for f32 {

@@ -102,6 +102,7 @@ impl DistanceLimit {
     }
 }
 
+// Any two numbers, as the definitions have it: that they are within reach is asked where it is needed, since a ghost field would narrow what is said of every limit.
 #[derive(Clone, Copy)]
 pub struct AngleLimit {
     pub min: f32,

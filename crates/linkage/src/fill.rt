@@ -33,7 +33,8 @@ impl<'c, 's> Table<'c, 's> {
         tick(self.card, self.state)
     }
 
-    // The lines of a tick, one for each body.
+    // The lines of a tick, one for each body. By place: a line has a body's first seven numbers, and by chunks its number and place would be told apart as well.
+    #[tactic(auto, using(crate::proofs::Pieces::no_lines, crate::proofs::Pieces::more_lines))]
     fn put_lines(&self, tick: u16, out: &mut Lines)
         requires { array_vec_len out.old + 73 * self.now.bodies ≤ 65536 }
         ensures bytes { Extends out.old (lines_of tick self.now.bodies self.now.state.now) out.new }

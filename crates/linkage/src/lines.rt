@@ -43,6 +43,7 @@ fn put_hex(out: &mut Lines, x: f32)
     put(out, &digits);
 }
 
+#[tactic(auto, using(crate::proofs::Pieces::next_number), unfolding(numbers::specs::Lists::concat))]
 fn put_numbers(out: &mut Lines, numbers: &[f32])
     requires { array_vec_len out.old + 9 * length numbers.now ≤ 65536 }
     ensures bytes { Extends out.old (concat (map hex_of numbers.now)) out.new }

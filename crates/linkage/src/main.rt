@@ -10,14 +10,13 @@ ghost use Rattle.state.specs.State.{body_numbers};
 use crate::fill::Table;
 use card::refusal::Refusal;
 use input::read_full;
+use state::places::LARGEST;
 use state::sizes::{CardSizes, sizes};
 use state::start::start;
 use std::io;
 
-// The state of 255 bodies and 255 joints: no card has more of either.
-const LARGEST: usize = 6375;
-
 // Leaves the start state in so many of the room's first numbers.
+#[tactic(auto, using(state::proofs::Few::few))]
 fn started(card: &[u8], room: &mut [f32; LARGEST]) -> Result<CardSizes, Refusal>
     ensures { IfOk result (λ s. (s.bodies ≤ 255) × (body_numbers * s.bodies ≤ s.state) × (s.state ≤ 6375)) }
 {

@@ -1,7 +1,7 @@
 -- A card that no check refuses: its header, and where its bodies and joints stand.
 use Prim.Native.Nat.{ℕ, ◌+◌, ◌*◌, ◌-◌, ◌≤◌, ◌<◌}
 use native.Mathlib.Omega.{arith}
-use mathlib.Core.Path.{◌≡◌, refl, ap, ◌∙◌}
+use mathlib.Core.Path.{◌≡◌, refl}
 use mathlib.Core.List.{List, []}
 use lib.ListN.{length, get_or}
 use lib.Dec.{T}
@@ -42,56 +42,60 @@ module _ (card : List ℕ) (z : check_of card ≡ 0) (n : named.Edition) (en : e
   unfolding header_bits in_float
   rate_fits e = rw (e, le-leb (at 3 numbers) 16777216 (omega (arith, rate_small))) tt
 
-  -- its header has `bytes` bytes
-  module _ {bytes : ℕ} (eb : bytes ≡ (sizes_of n).header_bytes) where
-    place : 8 * bytes ≡ width_of (cells n).header
-    place = ap (λ b. 8 * b) eb ∙ header_width n
+  -- the bytes of its header
+  abbrev bytes : ℕ
+  bytes = (sizes_of n).header_bytes
 
-    pub enough : bytes + 94 * at 1 numbers + 123 * at 2 numbers ≤ length card
-    enough =
-        let long : width_of (cells n).header + 752 * at 1 numbers + 984 * at 2 numbers ≤ 8 * length card = rw (is, ← en, joint_width n) at (accepted card z).enough in
-        omega (arith, long, place)
+  place : 8 * bytes ≡ width_of (cells n).header
+  place = header_width n
 
-    -- room for its floats
-    pub header_room : (12 ≤ bytes) × (bytes ≤ length card)
-    header_room = (rw eb (header_bytes_lem n).0, omega (arith, enough))
+  pub enough : bytes + 94 * at 1 numbers + 123 * at 2 numbers ≤ length card
+  enough =
+      let long : width_of (cells n).header + 752 * at 1 numbers + 984 * at 2 numbers ≤ 8 * length card = rw (is, ← en, joint_width n) at (accepted card z).enough in
+      omega (arith, long, place)
 
-    pub header_read : {b : HeaderBits} {gravity warm : Float} → b ≡ header_bits numbers → gravity ≡ float_at card (bytes - 8) → warm ≡ float_at card (bytes - 4)
-        → ◌≡◌ {A = Header}
-        (record { bodies = b.bodies; joints = b.joints; dt = f1 ⊘ of_int binary32 (pos b.rate); gravity = gravity; warm_coefficient = warm })
-        (header_of (card_of card))
-    unfolding header_of header_bits
-    header_read e g w = rw (is, e, g, w, eb, (header_floats n card).0, (header_floats n card).1) refl
+  pub header_fits : (sizes_of n).header_bytes ≤ length card
+  header_fits = omega (arith, enough)
 
-    -- ---- by the counts of its header
+  pub header_read : {b : HeaderBits} {gravity warm : Float} → b ≡ header_bits numbers → gravity ≡ float_at card (bytes - 8) → warm ≡ float_at card (bytes - 4)
+      → ◌≡◌ {A = Header}
+      (record { bodies = b.bodies; joints = b.joints; dt = f1 ⊘ of_int binary32 (pos b.rate); gravity = gravity; warm_coefficient = warm })
+      (header_of (card_of card))
+  unfolding header_of header_bits
+  header_read e g w = rw (is, e, g, w, (header_floats n card).0, (header_floats n card).1) refl
 
-    module _ (h : Header) (e : h ≡ header_of (card_of card)) where
-      count : (h.bodies ≡ at 1 numbers) × (h.joints ≡ at 2 numbers)
-      unfolding header_of
-      count = rw (e, is) (refl, refl)
+  -- ---- by the counts of its header
 
-      pub fits : bytes + 94 * h.bodies + 123 * h.joints ≤ length card
-      fits = omega (arith, enough, count.0, count.1)
+  module _ (h : Header) (e : h ≡ header_of (card_of card)) where
+    count : (h.bodies ≡ at 1 numbers) × (h.joints ≡ at 2 numbers)
+    unfolding header_of
+    count = rw (e, is) (refl, refl)
 
-      pub bodies_are : (card_of card).bodies ≡ records_at body card (8 * bytes) h.bodies
-      bodies_are = rw (count.0, is, place) refl
+    pub fits : (sizes_of n).header_bytes + 94 * h.bodies + 123 * h.joints ≤ length card
+    fits = omega (arith, enough, count.0, count.1)
 
-      pub joints_are : (card_of card).joints ≡ records_at cs card (8 * (bytes + 94 * h.bodies)) h.joints
-      joints_are =
-          let behind : 8 * (bytes + 94 * at 1 numbers) ≡ width_of (cells n).header + 752 * at 1 numbers = omega (arith, place) in
-          rw (count.0, count.1, behind, is) refl
+    pub bodies_are : (card_of card).bodies ≡ records_at body card (8 * bytes) h.bodies
+    bodies_are = rw (count.0, is, place) refl
 
-      -- a joint has a kind, ties bodies of the card, and has angle limits within reach
-      pub joint_fits : (j : ℕ) → j < h.joints
-          → let ns = numbers_at cs card (8 * (bytes + 94 * h.bodies) + j * width_of cs) in
-          (at 0 ns < 5) × (at 1 ns < h.bodies) × (at 2 ns < h.bodies) × (T (kind_of ns).angles → Narrow 28 ns × Narrow 30 ns)
-      joint_fits j r =
-          let p = 8 * (bytes + 94 * h.bodies) in
-          let within : j < length (card_of card).joints = rw (joints_are, records_length cs card p h.joints) r in
-          let has = (accepted card z).has.joint j within in
-          let here : get_or (card_of card).joints j [] ≡ numbers_at cs card (p + j * width_of cs) = rw joints_are (record_at cs card p h.joints j r) in
-          let many : length (card_of card).bodies ≡ h.bodies = rw bodies_are (records_length body card (8 * bytes) h.bodies) in
-          (rw here at has.kind, rw (here, many) at has.body1, rw (here, many) at has.body2, rw here at has.angles)
+    pub joints_are : (card_of card).joints ≡ records_at cs card (8 * (bytes + 94 * h.bodies)) h.joints
+    joints_are =
+        let behind : 8 * (bytes + 94 * at 1 numbers) ≡ width_of (cells n).header + 752 * at 1 numbers = omega (arith, place) in
+        rw (count.0, count.1, behind, is) refl
+
+    -- a joint has a kind, ties bodies of the card, and has angle limits within reach
+    pub joint_fits : (j : ℕ) → j < h.joints
+        → let ns = numbers_at cs card (8 * (bytes + 94 * h.bodies) + j * width_of cs) in
+        (at 0 ns < 5) × (at 1 ns < h.bodies) × (at 2 ns < h.bodies) × (T (kind_of ns).angles → Narrow 28 ns × Narrow 30 ns)
+    joint_fits j r =
+        let p = 8 * (bytes + 94 * h.bodies) in
+        let within : j < length (card_of card).joints = rw (joints_are, records_length cs card p h.joints) r in
+        let has = (accepted card z).has.joint j within in
+        let here : get_or (card_of card).joints j [] ≡ numbers_at cs card (p + j * width_of cs) = rw joints_are (record_at cs card p h.joints j r) in
+        let many : length (card_of card).bodies ≡ h.bodies = rw bodies_are (records_length body card (8 * bytes) h.bodies) in
+        (rw here at has.kind, rw (here, many) at has.body1, rw (here, many) at has.body2, rw here at has.angles)
+
+pub header_long : (n : named.Edition) → 12 ≤ (sizes_of n).header_bytes
+header_long n = (header_bytes_lem n).0
 
 -- no edition has more of either
 pub counts_within : (card : List ℕ) → check_of card ≡ 0 → {h : Header} → h ≡ header_of (card_of card) → (h.bodies ≤ 200) × (h.joints ≤ 200)

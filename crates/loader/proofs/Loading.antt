@@ -19,8 +19,11 @@ use Rattle.loader.proofs.Accepted.{bodies_are, joints_are, joint_fits}
 use Rattle.loader.proofs.Records.{row_at, row_length}
 use Rattle.loader.proofs.Reach.{in_reach}
 
--- the card begins with edition n, its header has `bytes` bytes
-module _ (card : List ℕ) (h : Header) (bytes : ℕ) (z : check_of card ≡ 0) (e : h ≡ header_of (card_of card)) (n : named.Edition) (en : edition_number n ≡ bits_at card 0 8) (eb : bytes ≡ (sizes_of n).header_bytes) where
+-- the card begins with edition n
+module _ (card : List ℕ) (h : Header) (z : check_of card ≡ 0) (e : h ≡ header_of (card_of card)) (n : named.Edition) (en : edition_number n ≡ bits_at card 0 8) where
+  abbrev bytes : ℕ
+  bytes = (sizes_of n).header_bytes
+
   abbrev cs : List Cell
   cs = (cells n).joint
 
@@ -30,7 +33,7 @@ module _ (card : List ℕ) (h : Header) (bytes : ℕ) (z : check_of card ≡ 0) 
   module _ {bs : List LinkBody} {js : List LinkJoint} (ebs : bs ≡ map body_of (records_at body card (8 * bytes) h.bodies)) (ej : js ≡ map joint_of (records_at cs card joints h.joints)) where
     pub same_linkage : ◌≡◌ {A = Linkage} (record { dt = h.dt; gravity = h.gravity; warm_coefficient = h.warm_coefficient; bodies = bs; joints = js }) (linkage_of (card_of card))
     unfolding linkage_of header_of
-    same_linkage = rw (ebs, ej, ← (bodies_are card z n en eb h e), ← (joints_are card z n en eb h e), e) refl
+    same_linkage = rw (ebs, ej, ← (bodies_are card z n en h e), ← (joints_are card z n en h e), e) refl
 
     counted : length js ≡ h.joints
     counted = ap length ej ∙ row_length cs joint_of card joints h.joints
@@ -44,9 +47,9 @@ module _ (card : List ℕ) (h : Header) (bytes : ℕ) (z : check_of card ≡ 0) 
     pub tied : Tied bs js
     tied =
         record {
-          first = λ j r. rw (here j r, many) (joint_fits card z n en eb h e j (rw counted at r)).1;
-          second = λ j r. rw (here j r, many) (joint_fits card z n en eb h e j (rw counted at r)).2;
+          first = λ j r. rw (here j r, many) (joint_fits card z n en h e j (rw counted at r)).1;
+          second = λ j r. rw (here j r, many) (joint_fits card z n en h e j (rw counted at r)).2;
         }
 
     pub all_in_reach : EachInReach js
-    all_in_reach j r = rw (here j r) (in_reach cs (joint_of_lem n) card (joints + j * width_of cs) (joint_fits card z n en eb h e j (rw counted at r)).3)
+    all_in_reach j r = rw (here j r) (in_reach cs (joint_of_lem n) card (joints + j * width_of cs) (joint_fits card z n en h e j (rw counted at r)).3)

@@ -64,12 +64,12 @@ module _ (card : List ℕ) (z : check_of card ≡ 0) (h : Header) (e : h ≡ hea
   row_in_reach : j < length (map joint_of (card_of card).joints) → EachAngleLimit TurnsInReach (get_or (map joint_of (card_of card).joints) j (joint_of [])).joint
   row_in_reach r =
       let row = records_at cs card place h.joints in
-      let are : (card_of card).joints ≡ row = joints_are card z named_as.0 named_as.1 refl h e in
+      let are : (card_of card).joints ≡ row = joints_are card z named_as.0 named_as.1 h e in
       let within : j < h.joints = rw (are, length-map row joint_of, records_length cs card place h.joints) at r in
       let here : get_or (map joint_of row) j (joint_of []) ≡ joint_of (numbers_at cs card (place + j * width_of cs)) = get_or-map joint_of row j [] ∙ ap joint_of (record_at cs card place h.joints j within) in
       rw (are, here)
       (each_turns (joint_of (numbers_at cs card (place + j * width_of cs))).joint
-      (in_reach cs (joint_of_lem named_as.0) card (place + j * width_of cs) (joint_fits card z named_as.0 named_as.1 refl h e j within).3))
+      (in_reach cs (joint_of_lem named_as.0) card (place + j * width_of cs) (joint_fits card z named_as.0 named_as.1 h e j within).3))
 
 pub limits_in_reach : LimitsInReach
 unfolding linkage_of

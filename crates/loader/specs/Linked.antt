@@ -18,7 +18,7 @@ pub record Tied (bodies : List LinkBody) (joints : List LinkJoint) : Type 0 wher
 abbrev pub EachInReach : List LinkJoint → Type 0
 EachInReach joints = (j : ℕ) → j < length joints → EachAngleLimit InReach (get_or joints j (joint_of [])).joint
 
--- which holds in one way at most
+-- which holds in one way at most: proofs, but a ghost field cites the last, and it can cite specs alone
 
 limit_prop : (l : Option AngleLimit) → IsProp (IfSome l InReach)
 limit_prop None = Unit-prop

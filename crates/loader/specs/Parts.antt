@@ -25,13 +25,9 @@ header_of c =
 abbrev pub body_floats_of : List ℕ → List Float
 body_floats_of ns = map f32 (take 3 (drop 13 ns) ++ take 7 (drop 22 ns))
 
--- n floats of a record, from a byte of it on
-unfoldable pub floats_from : List ℕ → ℕ → ℕ → List Float
-floats_from bytes from n = each (λ k. float_at bytes (from + 4 * k)) n
-
--- those of a joint's record
+-- the floats of a joint's record
 abbrev pub joint_floats : List ℕ → List Float
-joint_floats bytes = floats_from bytes 3 30
+joint_floats bytes = each (λ k. float_at bytes (3 + 4 * k)) 30
 
 -- the linkage that slices hold
 abbrev pub linkage_in : held.Linkage → Linkage

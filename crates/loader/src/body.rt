@@ -1,5 +1,5 @@
 // A body of the card, as the solver reads it.
-ghost use Rattle.std.specs.Prelude.{◌≡◌, ◌≤◌, length, if◌then◌else◌};
+ghost use Rattle.std.specs.Prelude.{◌≡◌, if◌then◌else◌};
 ghost use Rattle.vector.specs.Matrix.{turned_tensor};
 ghost use Rattle.card.specs.Format.{numbers_at};
 ghost use Rattle.card.specs.Card.{body};
@@ -8,7 +8,7 @@ ghost use Rattle.loader.specs.Parts.{body_floats_of};
 
 use card::bits::{float_at, vec3_at};
 use card::layout::{CENTER_OF_MASS, INV_INERTIA, INV_MASS};
-use card::records::body_bits;
+use card::records::{BodyRecord, body_bits};
 use solver_body::SolverBodyInertia;
 use vector::{Quat, SymmetricTensor, Vec3};
 
@@ -47,34 +47,31 @@ impl LinkBody {
 }
 
 #[tactic(auto, unfolding(card::specs::Parts::body_bits, card::specs::Parts::float_at, card::specs::Format::numbers_at))]
-fn load_inertia(part: &[u8]) -> SolverBodyInertia
-    requires { 94 ≤ length part.now }
-    ensures { result ≡ moving_inertia_in (numbers_at body part.now 0) (body_floats_of (numbers_at body part.now 0)) }
+fn load_inertia(part: BodyRecord) -> SolverBodyInertia
+    ensures { result ≡ moving_inertia_in (numbers_at body part.entry.bytes.now 0) (body_floats_of (numbers_at body part.entry.bytes.now 0)) }
 {
-    let b = body_bits(part);
+    let b = body_bits(part.bytes);
     SolverBodyInertia {
-        inv_mass: float_at(part, INV_MASS),
+        inv_mass: float_at(part.bytes, INV_MASS),
         inv_angular_inertia: SymmetricTensor {
-            xx: float_at(part, INV_INERTIA),
-            xy: float_at(part, INV_INERTIA + 4),
-            xz: float_at(part, INV_INERTIA + 8),
-            yy: float_at(part, INV_INERTIA + 12),
-            yz: float_at(part, INV_INERTIA + 16),
-            zz: float_at(part, INV_INERTIA + 20),
+            xx: float_at(part.bytes, INV_INERTIA),
+            xy: float_at(part.bytes, INV_INERTIA + 4),
+            xz: float_at(part.bytes, INV_INERTIA + 8),
+            yy: float_at(part.bytes, INV_INERTIA + 12),
+            yz: float_at(part.bytes, INV_INERTIA + 16),
+            zz: float_at(part.bytes, INV_INERTIA + 20),
         },
-        translation_x_locked: b.lock_x == 1,
-        translation_y_locked: b.lock_y == 1,
-        translation_z_locked: b.lock_z == 1,
+        translation_x_locked: b.lock_x,
+        translation_y_locked: b.lock_y,
+        translation_z_locked: b.lock_z,
     }
 }
 
-// From the body's own part of the card.
 #[tactic(auto, unfolding(crate::specs::Linkage::body_in, card::specs::Parts::body_bits, card::specs::Parts::vec3_at, card::specs::Parts::float_at, card::specs::Format::numbers_at))]
-pub fn load_body(part: &[u8]) -> LinkBody
-    requires { 94 ≤ length part.now }
-    ensures { result ≡ body_of (numbers_at body part.now 0) }
+pub fn load_body(part: BodyRecord) -> LinkBody
+    ensures { result ≡ body_of (numbers_at body part.entry.bytes.now 0) }
 {
-    let anchored = body_bits(part).anchored;
+    let anchored = body_bits(part.bytes).anchored;
     LinkBody {
         anchored,
         inertia: if anchored {
@@ -82,6 +79,6 @@ pub fn load_body(part: &[u8]) -> LinkBody
         } else {
             load_inertia(part)
         },
-        center_of_mass: vec3_at(part, CENTER_OF_MASS),
+        center_of_mass: vec3_at(part.bytes, CENTER_OF_MASS),
     }
 }

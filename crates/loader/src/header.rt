@@ -18,6 +18,7 @@ pub struct Header {
     pub warm_coefficient: f32,
 }
 
+#[tactic(auto, using(card::proofs::Accepted::at_least_12, crate::proofs::Accepted::header_long, crate::proofs::Accepted::header_fits))]
 pub fn header_of(card: Accepted) -> Header
     ensures { result ≡ header_of (card_of card.entry.bytes.now) }
 {

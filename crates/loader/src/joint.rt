@@ -1,15 +1,15 @@
 // A joint of the card, as the solver reads it.
-ghost use Rattle.std.specs.Prelude.{◌≡◌, ◌+◌, ◌≤◌, ◌<◌, length, ltb, List, ℕ, Some, None, if◌then◌else◌};
+ghost use Rattle.std.specs.Prelude.{◌≡◌, ◌+◌, ◌≤◌, ◌<◌, ltb, List, ℕ, Some, None, if◌then◌else◌};
 ghost use Rattle.card.specs.Format.{numbers_at};
 ghost use Rattle.card.specs.Card.{at, edition_of};
-ghost use Rattle.card.specs.Parts.{edition_number, joint_bits, vec3_at, quat_at};
-ghost use Rattle.loader.specs.Linkage.{angle_limit_in, distance_limit_in, model_in, angular_motor_in, linear_motor_in, fixed_in, revolute_in, prismatic_in, spherical_in, distance_in, kind_in, joint_of};
-ghost use Rattle.loader.specs.Parts.{floats_from, joint_floats};
+ghost use Rattle.card.specs.Parts.{edition_number, joint_bits, float_at, vec3_at, quat_at};
+ghost use Rattle.loader.specs.Linkage.{model_in, angular_motor_in, linear_motor_in, fixed_in, revolute_in, prismatic_in, spherical_in, distance_in, kind_in, joint_of};
+ghost use Rattle.loader.specs.Parts.{joint_floats};
 
 use card::bits::{float_at, quat_at, vec3_at};
 use card::edition::Edition;
 use card::layout::{ANCHOR1, AXIS, BASIS1, BASIS2, COMPLIANCES, LIMIT1, LIMIT2, MOTOR};
-use card::records::{JointBits, joint_bits};
+use card::records::{JointBits, JointRecord, joint_bits};
 use joints::distance::DistanceJoint;
 use joints::fixed::FixedJoint;
 use joints::motor::{AngularMotor, LinearMotor, MotorModel};
@@ -45,57 +45,40 @@ const ANCHOR2: usize = ANCHOR1 + 12;
 
 // A joint's own part of a card, and the numbers that it begins with.
 #[derive(Clone, Copy)]
-struct JointRecord<'a> {
-    bytes: &'a [u8],
+struct JointFields<'a> {
+    part: JointRecord<'a>,
     // Clauses take any numbers with these bits: a ghost field that ties them to the bytes needs the edition too, and each clause would spell its record out.
     bits: JointBits,
-    ghost whole: { 123 ≤ length bytes.now },
 }
 
-#[tactic(auto, unfolding(crate::specs::Linkage::model_in, crate::specs::Linkage::angular_motor_in, crate::specs::Linkage::linear_motor_in, crate::specs::Linkage::fixed_in, crate::specs::Linkage::revolute_in, crate::specs::Linkage::prismatic_in, crate::specs::Linkage::spherical_in, crate::specs::Linkage::distance_in, crate::specs::Linkage::kind_in, crate::specs::Parts::floats_from, numbers::specs::Lists::each, card::specs::Parts::joint_bits, card::specs::Parts::vec3_at, card::specs::Parts::quat_at))]
-impl<'a> JointRecord<'a> {
+#[tactic(auto, unfolding(crate::specs::Linkage::model_in, crate::specs::Linkage::angular_motor_in, crate::specs::Linkage::linear_motor_in, crate::specs::Linkage::fixed_in, crate::specs::Linkage::revolute_in, crate::specs::Linkage::prismatic_in, crate::specs::Linkage::spherical_in, crate::specs::Linkage::distance_in, crate::specs::Linkage::kind_in, numbers::specs::Lists::each, card::specs::Parts::joint_bits, card::specs::Parts::vec3_at, card::specs::Parts::quat_at))]
+impl<'a> JointFields<'a> {
     fn frame(&self, anchor: usize, basis: usize) -> JointFrame
         requires { (anchor + 12 ≤ 123) × (basis + 16 ≤ 123) }
-        ensures { result ≡ record { anchor = vec3_at self.now.bytes.now anchor; basis = quat_at self.now.bytes.now basis } }
+        ensures { result ≡ record { anchor = vec3_at self.now.part.bytes.now anchor; basis = quat_at self.now.part.bytes.now basis } }
     {
         JointFrame {
-            anchor: vec3_at(self.bytes, anchor),
-            basis: quat_at(self.bytes, basis),
+            anchor: vec3_at(self.part.bytes, anchor),
+            basis: quat_at(self.part.bytes, basis),
         }
     }
 
-    // The limit at a place of the record, where there is one. A distance's has a function of its own: one for both would need a trait that makes either of two floats.
-    fn angle_limit(&self, limited: bool, place: usize) -> Option<AngleLimit>
+    // The least and the most at a place of the record.
+    fn range(&self, place: usize) -> (f32, f32)
         requires { place + 8 ≤ 123 }
-        ensures { result ≡ angle_limit_in (floats_from self.now.bytes.now place 2) limited 0 }
+        ensures { result ≡ (float_at self.now.part.bytes.now place, float_at self.now.part.bytes.now (place + 4)) }
     {
-        if limited {
-            return Some(AngleLimit {
-                min: float_at(self.bytes, place),
-                max: float_at(self.bytes, place + 4),
-            });
-        }
-        None
-    }
-
-    fn distance_limit(&self, limited: bool, place: usize) -> Option<DistanceLimit>
-        requires { place + 8 ≤ 123 }
-        ensures { result ≡ distance_limit_in (floats_from self.now.bytes.now place 2) limited 0 }
-    {
-        if limited {
-            return Some(DistanceLimit {
-                min: float_at(self.bytes, place),
-                max: float_at(self.bytes, place + 4),
-            });
-        }
-        None
+        (
+            float_at(self.part.bytes, place),
+            float_at(self.part.bytes, place + 4),
+        )
     }
 
     fn motor_model(&self) -> MotorModel
-        ensures { (ns : List ℕ) → self.now.bits ≡ joint_bits ns → result ≡ model_in ns (joint_floats self.now.bytes.now) }
+        ensures { (ns : List ℕ) → self.now.bits ≡ joint_bits ns → result ≡ model_in ns (joint_floats self.now.part.bytes.now) }
     {
-        let first = float_at(self.bytes, MOTOR + 12);
-        let second = float_at(self.bytes, MOTOR + 16);
+        let first = float_at(self.part.bytes, MOTOR + 12);
+        let second = float_at(self.part.bytes, MOTOR + 16);
         match self.bits.motor {
             1 => MotorModel::SpringDamper {
                 frequency: first,
@@ -114,101 +97,103 @@ impl<'a> JointRecord<'a> {
 
     // A slide's motor has a function of its own: avian's two structs name their caps, and one for both would be no shorter.
     fn angular_motor(&self) -> AngularMotor
-        ensures { (ns : List ℕ) → self.now.bits ≡ joint_bits ns → result ≡ angular_motor_in ns (joint_floats self.now.bytes.now) }
+        ensures { (ns : List ℕ) → self.now.bits ≡ joint_bits ns → result ≡ angular_motor_in ns (joint_floats self.now.part.bytes.now) }
     {
         AngularMotor {
             enabled: self.bits.motor != 0,
-            target_velocity: float_at(self.bytes, MOTOR),
-            target_position: float_at(self.bytes, MOTOR + 4),
-            max_torque: float_at(self.bytes, MOTOR + 8),
+            target_velocity: float_at(self.part.bytes, MOTOR),
+            target_position: float_at(self.part.bytes, MOTOR + 4),
+            max_torque: float_at(self.part.bytes, MOTOR + 8),
             motor_model: self.motor_model(),
         }
     }
 
     fn linear_motor(&self) -> LinearMotor
-        ensures { (ns : List ℕ) → self.now.bits ≡ joint_bits ns → result ≡ linear_motor_in ns (joint_floats self.now.bytes.now) }
+        ensures { (ns : List ℕ) → self.now.bits ≡ joint_bits ns → result ≡ linear_motor_in ns (joint_floats self.now.part.bytes.now) }
     {
         LinearMotor {
             enabled: self.bits.motor != 0,
-            target_velocity: float_at(self.bytes, MOTOR),
-            target_position: float_at(self.bytes, MOTOR + 4),
-            max_force: float_at(self.bytes, MOTOR + 8),
+            target_velocity: float_at(self.part.bytes, MOTOR),
+            target_position: float_at(self.part.bytes, MOTOR + 4),
+            max_force: float_at(self.part.bytes, MOTOR + 8),
             motor_model: self.motor_model(),
         }
     }
 
     fn fixed(&self) -> FixedJoint
-        ensures { result ≡ fixed_in (joint_floats self.now.bytes.now) }
+        ensures { result ≡ fixed_in (joint_floats self.now.part.bytes.now) }
     {
         FixedJoint {
             frame1: self.frame(ANCHOR1, BASIS1),
             frame2: self.frame(ANCHOR2, BASIS2),
-            point_compliance: float_at(self.bytes, COMPLIANCES),
-            angle_compliance: float_at(self.bytes, COMPLIANCES + 4),
+            point_compliance: float_at(self.part.bytes, COMPLIANCES),
+            angle_compliance: float_at(self.part.bytes, COMPLIANCES + 4),
         }
     }
 
     fn revolute(&self) -> RevoluteJoint
-        ensures { (ns : List ℕ) → self.now.bits ≡ joint_bits ns → result ≡ revolute_in ns (joint_floats self.now.bytes.now) }
+        ensures { (ns : List ℕ) → self.now.bits ≡ joint_bits ns → result ≡ revolute_in ns (joint_floats self.now.part.bytes.now) }
     {
+        let limit = self.bits.first.then_some(self.range(LIMIT1));
         RevoluteJoint {
             frame1: self.frame(ANCHOR1, BASIS1),
             frame2: self.frame(ANCHOR2, BASIS2),
-            hinge_axis: vec3_at(self.bytes, AXIS),
-            angle_limit: self.angle_limit(self.bits.first, LIMIT1),
-            point_compliance: float_at(self.bytes, COMPLIANCES),
-            align_compliance: float_at(self.bytes, COMPLIANCES + 4),
-            limit_compliance: float_at(self.bytes, COMPLIANCES + 8),
+            hinge_axis: vec3_at(self.part.bytes, AXIS),
+            angle_limit: limit.map(|(min, max)| AngleLimit { min, max }),
+            point_compliance: float_at(self.part.bytes, COMPLIANCES),
+            align_compliance: float_at(self.part.bytes, COMPLIANCES + 4),
+            limit_compliance: float_at(self.part.bytes, COMPLIANCES + 8),
             motor: self.angular_motor(),
         }
     }
 
     fn prismatic(&self) -> PrismaticJoint
-        ensures { (ns : List ℕ) → self.now.bits ≡ joint_bits ns → result ≡ prismatic_in ns (joint_floats self.now.bytes.now) }
+        ensures { (ns : List ℕ) → self.now.bits ≡ joint_bits ns → result ≡ prismatic_in ns (joint_floats self.now.part.bytes.now) }
     {
+        let limits = self.bits.first.then_some(self.range(LIMIT1));
         PrismaticJoint {
             frame1: self.frame(ANCHOR1, BASIS1),
             frame2: self.frame(ANCHOR2, BASIS2),
-            slider_axis: vec3_at(self.bytes, AXIS),
-            limits: self.distance_limit(self.bits.first, LIMIT1),
-            angle_compliance: float_at(self.bytes, COMPLIANCES),
-            align_compliance: float_at(self.bytes, COMPLIANCES + 4),
+            slider_axis: vec3_at(self.part.bytes, AXIS),
+            limits: limits.map(|(min, max)| DistanceLimit { min, max }),
+            angle_compliance: float_at(self.part.bytes, COMPLIANCES),
+            align_compliance: float_at(self.part.bytes, COMPLIANCES + 4),
             motor: self.linear_motor(),
         }
     }
 
     fn spherical(&self) -> SphericalJoint
-        ensures { (ns : List ℕ) → self.now.bits ≡ joint_bits ns → result ≡ spherical_in ns (joint_floats self.now.bytes.now) }
+        ensures { (ns : List ℕ) → self.now.bits ≡ joint_bits ns → result ≡ spherical_in ns (joint_floats self.now.part.bytes.now) }
     {
+        let swing = self.bits.first.then_some(self.range(LIMIT1));
+        let twist = self.bits.second.then_some(self.range(LIMIT2));
         SphericalJoint {
             frame1: self.frame(ANCHOR1, BASIS1),
             frame2: self.frame(ANCHOR2, BASIS2),
-            twist_axis: vec3_at(self.bytes, AXIS),
-            swing_limit: self.angle_limit(self.bits.first, LIMIT1),
-            twist_limit: self.angle_limit(self.bits.second, LIMIT2),
-            point_compliance: float_at(self.bytes, COMPLIANCES),
-            swing_compliance: float_at(self.bytes, COMPLIANCES + 4),
-            twist_compliance: float_at(self.bytes, COMPLIANCES + 8),
+            twist_axis: vec3_at(self.part.bytes, AXIS),
+            swing_limit: swing.map(|(min, max)| AngleLimit { min, max }),
+            twist_limit: twist.map(|(min, max)| AngleLimit { min, max }),
+            point_compliance: float_at(self.part.bytes, COMPLIANCES),
+            swing_compliance: float_at(self.part.bytes, COMPLIANCES + 4),
+            twist_compliance: float_at(self.part.bytes, COMPLIANCES + 8),
         }
     }
 
     fn distance(&self) -> DistanceJoint
-        ensures { result ≡ distance_in (joint_floats self.now.bytes.now) }
+        ensures { result ≡ distance_in (joint_floats self.now.part.bytes.now) }
     {
+        let (min, max) = self.range(LIMIT1);
         DistanceJoint {
-            anchor1: vec3_at(self.bytes, ANCHOR1),
-            anchor2: vec3_at(self.bytes, ANCHOR2),
-            limits: DistanceLimit {
-                min: float_at(self.bytes, LIMIT1),
-                max: float_at(self.bytes, LIMIT1 + 4),
-            },
-            compliance: float_at(self.bytes, COMPLIANCES),
+            anchor1: vec3_at(self.part.bytes, ANCHOR1),
+            anchor2: vec3_at(self.part.bytes, ANCHOR2),
+            limits: DistanceLimit { min, max },
+            compliance: float_at(self.part.bytes, COMPLIANCES),
         }
     }
 
     // By kind; a kind number above the last is refused.
     fn by_kind(&self) -> Option<Joint>
-        ensures { (ns : List ℕ) → self.now.bits ≡ joint_bits ns → result ≡ (if ltb (at 0 ns) 5 then Some (kind_in ns (joint_floats self.now.bytes.now)) else None) }
+        ensures { (ns : List ℕ) → self.now.bits ≡ joint_bits ns → result ≡ (if ltb (at 0 ns) 5 then Some (kind_in ns (joint_floats self.now.part.bytes.now)) else None) }
     {
         match self.bits.kind {
             0 => Some(Joint::Fixed(self.fixed())),
@@ -221,19 +206,15 @@ impl<'a> JointRecord<'a> {
     }
 }
 
-// From the joint's own part of a card, which has no kind number above the last.
-pub fn load_joint(part: &[u8], edition: Edition) -> LinkJoint
-    requires { (123 ≤ length part.now) × (at 0 (numbers_at (edition_of (edition_number edition)).joint part.now 0) < 5) }
-    ensures { result ≡ joint_of (numbers_at (edition_of (edition_number edition)).joint part.now 0) }
+// Of a record with no kind number above the last.
+pub fn load_joint(part: JointRecord, edition: Edition) -> LinkJoint
+    requires { at 0 (numbers_at (edition_of (edition_number edition)).joint part.bytes.now 0) < 5 }
+    ensures { result ≡ joint_of (numbers_at (edition_of (edition_number edition)).joint part.entry.bytes.now 0) }
 {
-    let b = joint_bits(part, edition);
-    let record = JointRecord {
-        bytes: part,
-        bits: b,
-    };
+    let bits = joint_bits(part.bytes, edition);
     LinkJoint {
-        body1: b.body1,
-        body2: b.body2,
-        joint: record.by_kind().unwrap(),
+        body1: bits.body1,
+        body2: bits.body2,
+        joint: JointFields { part, bits }.by_kind().unwrap(),
     }
 }

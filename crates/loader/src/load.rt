@@ -13,29 +13,32 @@ use crate::linkage::Linkage;
 use card::accepted_card::Accepted;
 use card::edition::Edition;
 use card::layout::{BODY_BYTES, JOINT_BYTES};
+use card::records::{BodyRecord, JointRecord};
 
-// From byte `first` on.
+// From byte `first` on. Bodies and joints apart: joints are read by an edition, which asks that their kinds fit. They are written by index, since after an adapter of
+// `iter_mut` a proof knows nothing of the slice.
 fn load_bodies(card: &[u8], first: usize, bodies: &mut [LinkBody])
     requires { first + 94 * length bodies.old ≤ length card.now }
     ensures { bodies.new ≡ map body_of (records_at body card.now (8 * first) (length bodies.old)) }
 {
-    for i in 0..bodies.len() {
-        let from = first + BODY_BYTES * i;
-        bodies[i] = load_body(&card[from..from + BODY_BYTES]);
+    let parts = card[first..first + BODY_BYTES * bodies.len()].chunks_exact(BODY_BYTES);
+    for (i, bytes) in parts.enumerate() {
+        bodies[i] = load_body(BodyRecord { bytes });
     }
 }
 
-// From byte `first` on.
+// From byte `first` on. The card and a place, as its checks have them.
 fn load_joints(card: &[u8], edition: Edition, first: usize, joints: &mut [LinkJoint])
     requires { (first + 123 * length joints.old ≤ length card.now) × ((j : ℕ) → j < length joints.old → at 0 (numbers_at (edition_of (edition_number edition)).joint card.now (8 * first + j * 984)) < 5) }
     ensures { joints.new ≡ map joint_of (records_at (edition_of (edition_number edition)).joint card.now (8 * first) (length joints.old)) }
 {
-    for j in 0..joints.len() {
-        let from = first + JOINT_BYTES * j;
-        joints[j] = load_joint(&card[from..from + JOINT_BYTES], edition);
+    let parts = card[first..first + JOINT_BYTES * joints.len()].chunks_exact(JOINT_BYTES);
+    for (j, bytes) in parts.enumerate() {
+        joints[j] = load_joint(JointRecord { bytes }, edition);
     }
 }
 
+#[tactic(auto, using(crate::proofs::Accepted::fits))]
 pub fn load<'b, 'j>(
     card: Accepted,
     h: Header,

@@ -7,8 +7,8 @@ use mathlib.Core.Path.{◌≡◌, refl, sym, ◌∙◌}
 use mathlib.Core.Logic.{◌⊎◌, inl, inr}
 use mathlib.Core.Bool.{Bool, ◌&&◌, and_assoc}
 use mathlib.Core.List.{List, [], ◌∷◌, ◌++◌, map, append-nil, append_assoc, map-append}
-use lib.ListN.{length, get_or, set, take, drop, length-append, length-set, get_or-append}
-use lib.Seq.{sets, get_or_at, get_or-set_same, get_or-set_other, ext_get_or, take_at, take-add, drop-cons, drop-drop, drop-append-add}
+use lib.ListN.{length, get_or, set, take, drop, length-append, length-set, length-take, length-drop, get_or-append}
+use lib.Seq.{sets, sets-eq, length-sets, get_or_at, get_or-set_same, get_or-set_other, get_or-take, get_or-drop, ext_get_or, take_at, drop_at, take-add, drop-cons, drop-drop, drop-append-add}
 use lib.Ieee.{Float, nan}
 use Rattle.numbers.specs.Lists.{all, concat, each, after}
 use Rattle.numbers.specs.Numbers.{numbers3, numbers4, vec3_in, quat_in}
@@ -70,12 +70,6 @@ module _ {A : Type 0} (v : ℕ → A) where
         le_ind {n = suc i} (λ m. get_or (after fill l m) i d ≡ v i)
         (get_or-set_same (after fill l i) i (v i) d (rw (fill_length i) (omega arith)))
         (λ m a q. get_or-set_other (after fill l m) m i (v m) d (λ e. omega arith) ∙ q) n h
-
-    -- a place that is not reached yet
-    pub fill_past : (d : A) (i n : ℕ) → n ≤ i → get_or (after fill l n) i d ≡ get_or l i d
-    unfolding after
-    fill_past d i zero h = refl
-    fill_past d i (suc n) h = get_or-set_other (after fill l n) n i (v n) d (λ e. omega arith) ∙ fill_past d i n (omega arith)
 
     -- whatever it had
     pub fill_each : (d : A) (n : ℕ) → length l ≡ n → after fill l n ≡ each v n
@@ -159,34 +153,33 @@ set_past [] l i k d h = refl
 set_past (a ∷ vs) l i k d (inl h) = set_past vs (set l i a) (suc i) k d (inl (omega arith)) ∙ get_or-set_other l i k a d (λ e. omega arith)
 set_past (a ∷ vs) l i k d (inr h) = set_past vs (set l i a) (suc i) k d (inr (omega arith)) ∙ get_or-set_other l i k a d (λ e. omega arith)
 
-pub set_at : (vs l : List Float) (i k : ℕ) (d : Float) → k < length vs → i + length vs ≤ length l → get_or (sets l i vs) (i + k) d ≡ get_or vs k d
-set_at [] l i k d h r = absurd (omega arith)
-set_at (a ∷ vs) l i zero d h r =
-    let e : i + 0 ≡ i = omega arith in
-    rw e (set_past vs (set l i a) (suc i) i d (inl (omega arith)) ∙ get_or-set_same l i a d (omega arith))
-set_at (a ∷ vs) l i (suc k) d h r =
-    let e : i + suc k ≡ suc i + k = omega arith in rw e (set_at vs (set l i a) (suc i) k d (omega arith) (rw length-set (omega arith)))
+-- ---- n numbers from a place on
 
-module _ (vs w : List Float) (at : ℕ) where
-  module _ (room : at + length vs ≤ length w) where
-    one_at : (k p : ℕ) → p ≡ at + k → k < length vs → get_or (sets w at vs) p nan ≡ get_or vs k nan
-    one_at k p e h = rw e (set_at vs w at k nan h room)
+module _ (s : List Float) (at n : ℕ) where
+  number_part : (k p : ℕ) → p ≡ at + k → k < n → get_or s p nan ≡ get_or (take n (drop at s)) k nan
+  number_part k p e h = rw e (sym (get_or-take n (drop at s) k nan h ∙ get_or-drop at s k nan))
 
-    pub vec3_at_lem : (k p : ℕ) → p ≡ at + k → k + 3 ≤ length vs → vec3_in (sets w at vs) p ≡ vec3_in vs k
-    vec3_at_lem k p e h =
-        rw (one_at k p e (omega arith), one_at (k + 1) (p + 1) (omega arith) (omega arith), one_at (k + 2) (p + 2) (omega arith) (omega arith))
+  pub vec3_part : (k p : ℕ) → p ≡ at + k → k + 3 ≤ n → vec3_in s p ≡ vec3_in (take n (drop at s)) k
+  vec3_part k p e h =
+      rw (number_part k p e (omega arith), number_part (k + 1) (p + 1) (omega arith) (omega arith), number_part (k + 2) (p + 2) (omega arith) (omega arith))
 
-    pub quat_at_lem : (k p : ℕ) → p ≡ at + k → k + 4 ≤ length vs → quat_in (sets w at vs) p ≡ quat_in vs k
-    quat_at_lem k p e h =
-        rw (one_at k p e (omega arith), one_at (k + 1) (p + 1) (omega arith) (omega arith), one_at (k + 2) (p + 2) (omega arith) (omega arith), one_at (k + 3) (p + 3) (omega arith) (omega arith))
+  pub quat_part : (k p : ℕ) → p ≡ at + k → k + 4 ≤ n → quat_in s p ≡ quat_in (take n (drop at s)) k
+  quat_part k p e h =
+      rw (number_part k p e (omega arith), number_part (k + 1) (p + 1) (omega arith) (omega arith), number_part (k + 2) (p + 2) (omega arith) (omega arith), number_part (k + 3) (p + 3) (omega arith) (omega arith))
 
-  past : (k : ℕ) → (k < at) ⊎ (at + length vs ≤ k) → get_or (sets w at vs) k nan ≡ get_or w k nan
-  past k h = set_past vs w at k nan h
+-- those of a piece that was written, and others
+module _ (vs l : List Float) (at : ℕ) where
+  pub written_part : at + length vs ≤ length l → take (length vs) (drop at (sets l at vs)) ≡ vs
+  written_part room =
+      let front : length (take at l) ≡ at = rw length-take (omega arith) in
+      let rest = drop (at + length vs) l in
+      rw (sets-eq vs l at room, append_assoc, drop_at (take at l) (vs ++ rest) at front) (take_at vs rest (length vs) refl)
 
-  pub vec3_past : (k : ℕ) → (k + 3 ≤ at) ⊎ (at + length vs ≤ k) → vec3_in (sets w at vs) k ≡ vec3_in w k
-  vec3_past k (inl h) = rw (past k (inl (omega arith)), past (k + 1) (inl (omega arith)), past (k + 2) (inl (omega arith)))
-  vec3_past k (inr h) = rw (past k (inr (omega arith)), past (k + 1) (inr (omega arith)), past (k + 2) (inr (omega arith)))
-
-  pub quat_past : (k : ℕ) → (k + 4 ≤ at) ⊎ (at + length vs ≤ k) → quat_in (sets w at vs) k ≡ quat_in w k
-  quat_past k (inl h) = rw (past k (inl (omega arith)), past (k + 1) (inl (omega arith)), past (k + 2) (inl (omega arith)), past (k + 3) (inl (omega arith)))
-  quat_past k (inr h) = rw (past k (inr (omega arith)), past (k + 1) (inr (omega arith)), past (k + 2) (inr (omega arith)), past (k + 3) (inr (omega arith)))
+  pub other_part : (k n : ℕ) → (k + n ≤ at) ⊎ (at + length vs ≤ k) → take n (drop k (sets l at vs)) ≡ take n (drop k l)
+  other_part k n h =
+      let w = sets l at vs in
+      ext_get_or nan (take n (drop k w)) (take n (drop k l)) (simp (length-take, length-drop, length-sets))
+      (λ j r.
+      let q : j < n = omega (arith, length-take n (drop k w)) in
+      let aside : (k + j < at) ⊎ (at + length vs ≤ k + j) = elim h [ inl a ↦ inl (omega arith) | inr b ↦ inr (omega arith) ] in
+      sym (number_part w k n j (k + j) refl q) ∙ set_past vs l at (k + j) nan aside ∙ number_part l k n j (k + j) refl q)

@@ -6,13 +6,11 @@ use card::refusal::number_of;
 use input::read_full;
 use replay::each_record;
 use scalar::to_bits;
+use state::places::LARGEST;
 use state::sizes::sizes;
 use state::start::start;
 use std::io;
 use tick::run::run;
-
-// The state of 255 bodies and 255 joints: no card has more of either.
-const LARGEST: usize = 6375;
 
 // A polynomial in the numbers' bits, modulo the largest prime below 2^32: where one number is another, so is the sum.
 fn sum(state: &[f32]) -> u64 {
@@ -30,6 +28,7 @@ fn replay_run(rt: &impl Print, card: &[u8], state: &mut [f32], ticks: u32) -> io
 }
 
 // The state of a card that is refused has no number.
+#[tactic(auto, using(state::proofs::Few::few))]
 fn replay_card(rt: &impl Print, card: &[u8], ticks: u32) -> io::Result<()> {
     let mut room = [0.0; LARGEST];
     match sizes(card) {

@@ -2,9 +2,10 @@
 use mathlib.Core.Path.{◌≡◌, sym, subst}
 use mathlib.Core.Logic.{inl, inr}
 use Prim.Native.Nat.{ℕ, zero, suc, ◌+◌, ◌*◌, ◌/◌, ◌%◌, ◌≤◌, ◌<◌, zero-le}
-use native.Mathlib.Nat.{lt_of_not-le}
+use native.Mathlib.Nat.{lt_of_not-le, lt_of_le_of_lt}
 use native.Mathlib.Decide.{dec_le}
 use native.Mathlib.Omega.{arith}
+use Rattle.root.proofs.Floor.{sq_lt}
 use Rattle.root.proofs.Rounded.{odd_mid, parity, half_even, half_odd}
 
 -- q - 1/2 < √a < q + 1/2, squared: what `root_near` ensures
@@ -20,7 +21,7 @@ even_near a h p f = (omega (arith, f.0), omega (arith, f.1))
 odd_near : (a h : ℕ) → Floor (4 * a) (2 * h + 1) → Near a (suc h)
 odd_near a h f = (omega (arith, f.0), omega (arith, f.1))
 
-pub near_of_floor : (a s : ℕ) → 1 < s → Floor (4 * a) s → Near a ((s + 1) / 2)
+near_of_floor : (a s : ℕ) → 1 < s → Floor (4 * a) s → Near a ((s + 1) / 2)
 near_of_floor a s p f = elim (parity s) [
   | inl e ↦ subst (Near a) (half_even s e) (even_near a (s / 2) (some s p) (subst (Floor (4 * a)) (even s e) f))
   | inr e ↦ subst (Near a) (half_odd s e) (odd_near a (s / 2) (subst (Floor (4 * a)) (sym (odd_mid s e)) f))
@@ -31,6 +32,9 @@ near_of_floor a s p f = elim (parity s) [
 
     even : (z : ℕ) → z % 2 ≡ 0 → z ≡ 2 * (z / 2)
     even z e = omega arith
+
+pub near_above : (a s : ℕ) → 70368744177664 ≤ a → Floor (4 * a) s → Near a ((s + 1) / 2)
+near_above a s h f = near_of_floor a s (omega (arith, sq_lt 16777215 (s + 1) (lt_of_le_of_lt (omega arith) f.1))) f
 
 pub floor_of_near : (a q : ℕ) → Near a q → (s : ℕ) × ((s + 1) / 2 ≡ q) × Floor (4 * a) s
 floor_of_near a q n = go q n (dec_le (q * q) a)

@@ -11,7 +11,7 @@ use Rattle.numbers.specs.Lists.{all, each}
 use Rattle.numbers.specs.Numbers.{vec3_in}
 use Rattle.numbers.proofs.Rows.{all_append}
 use Rattle.card.specs.Checks.{any}
-use Rattle.state.specs.State.{body_numbers, body_at, far_away}
+use Rattle.state.specs.State.{body_numbers, body_from, body_at, far_away}
 use Rattle.state.specs.Parts.{any_far}
 
 module _ {A : Type 0} (p : A → Bool) where
@@ -41,5 +41,5 @@ module _ (s : List Float) where
 
   pub next_far : (i : ℕ) {found far : Bool} {p : Vec3} → found ≡ any_far i s → p ≡ vec3_in s (body_numbers * i) → far ≡ far_away p
       → (found || far) ≡ any_far (i + 1) s
-  unfolding any_far body_at
+  unfolding any_far body_from
   next_far i e ep ef = rw (e, ef, ep) (sym (any_each (λ b. far_away b.position) (body_at s) i))

@@ -27,17 +27,22 @@ state_length bodies joints = body_numbers * bodies + joint_numbers * joints
 
 -- ---- reading and writing
 
--- body i: position, rotation, linear and angular velocity
-unfoldable pub body_at : List Float → ℕ → BodyState
-body_at s i =
-    let at = body_numbers * i in
+-- a body from a place on: position, rotation, linear and angular velocity
+unfoldable pub body_from : List Float → ℕ → BodyState
+body_from s at =
     record { position = vec3_in s at; rotation = quat_in s (at + 3); linear_velocity = vec3_in s (at + 7); angular_velocity = vec3_in s (at + 10) }
 
--- joint j's four totals, behind so many bodies
-unfoldable pub totals_at : ℕ → List Float → ℕ → JointTotals
-totals_at bodies s j =
-    let at = state_length bodies j in
-    record { first = vec3_in s at; second = vec3_in s (at + 3); third = vec3_in s (at + 6); fourth = vec3_in s (at + 9) }
+-- a joint's four totals
+unfoldable pub totals_from : List Float → ℕ → JointTotals
+totals_from s at = record { first = vec3_in s at; second = vec3_in s (at + 3); third = vec3_in s (at + 6); fourth = vec3_in s (at + 9) }
+
+-- body i
+abbrev pub body_at : List Float → ℕ → BodyState
+body_at s i = body_from s (body_numbers * i)
+
+-- joint j's totals, behind so many bodies
+abbrev pub totals_at : ℕ → List Float → ℕ → JointTotals
+totals_at bodies s j = totals_from s (state_length bodies j)
 
 abbrev pub numbers_of : BodyState → List Float
 numbers_of b = numbers3 b.position ++ numbers4 b.rotation ++ numbers3 b.linear_velocity ++ numbers3 b.angular_velocity

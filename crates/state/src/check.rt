@@ -5,8 +5,7 @@ ghost use Rattle.numbers.specs.Lists.{all};
 ghost use Rattle.state.specs.State.{body_numbers, far_away, bad_numbers};
 ghost use Rattle.state.specs.Parts.{any_far};
 
-use crate::places::BODY_NUMBERS;
-use numbers::Numbers;
+use crate::places::{BODY_NUMBERS, Numbers};
 use scalar::{is_finite, outside};
 use solver_body::POSITION_BOUND;
 use vector::Vec3;
@@ -26,6 +25,8 @@ fn far_away(p: Vec3) -> bool
         | outside(p.z, -POSITION_BOUND, POSITION_BOUND)
 }
 
+// A loop and no `any`, whose law goes from the front: the definition lists the bodies by one more at its end.
+#[tactic(auto, using(crate::proofs::Found::none_far, crate::proofs::Found::next_far))]
 fn any_far(bodies: usize, state: &[f32]) -> bool
     requires { body_numbers * bodies ≤ length state.now }
     ensures { result ≡ any_far bodies state.now }
@@ -37,6 +38,7 @@ fn any_far(bodies: usize, state: &[f32]) -> bool
     far
 }
 
+#[tactic(auto, unfolding(crate::specs::State::bad_numbers, crate::specs::Parts::any_far))]
 pub fn bad_numbers(bodies: usize, state: &[f32]) -> bool
     requires { body_numbers * bodies ≤ length state.now }
     ensures { result ≡ bad_numbers bodies state.now }

@@ -16,6 +16,7 @@ pub struct CardSizes {
     pub state: usize,
 }
 
+#[tactic(auto, using(card::proofs::Accepted::at_least_12))]
 pub fn sizes(card: &[u8]) -> Result<CardSizes, Refusal>
     ensures { sizes_answered result ≡ sizes_of card.now }
 {

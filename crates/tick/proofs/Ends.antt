@@ -16,7 +16,7 @@ use Rattle.numbers.proofs.Loops.{after_all}
 use Rattle.numbers.proofs.Rows.{each_is, each_length}
 use Rattle.loader.specs.Linkage.{Linkage}
 use Rattle.loader.specs.declared.joint.LinkJoint.{LinkJoint}
-use Rattle.state.specs.State.{state_length, body_at, totals_at, bad_numbers}
+use Rattle.state.specs.State.{state_length, totals_from, body_at, totals_at, bad_numbers}
 use Rattle.state.proofs.Rows.{state_rows, state_length_lem}
 use Rattle.tick.specs.Tick.{pre_solve_of, solve_next, solve_pass, solved_to, solved, new_body, new_state, stopped}
 use Rattle.tick.specs.Work.{solved_in}
@@ -33,7 +33,7 @@ map_same b (a ∷ l) zero = refl
 map_same b (a ∷ l) (suc i) = map_same b l i
 
 totals_clear : (bodies m n : ℕ) → n ≡ state_length bodies m → (js : List LinkJoint) → length js ≡ m → each (totals_at bodies (replicate n f0)) m ≡ map (λ j. no_totals) js
-unfolding totals_at
+unfolding totals_from
 totals_clear bodies m n e js ej =
     each_is (totals_at bodies (replicate n f0)) no_totals (map (λ j. no_totals) js) m (length-map js (λ j. no_totals) ∙ ej)
     (λ i k. cc (

@@ -2,11 +2,12 @@
 use Prim.Native.Nat.{ℕ, ◌+◌, ◌<◌}
 use native.Mathlib.Omega.{arith}
 use mathlib.Core.Path.{◌≡◌, refl, sym, ap, ◌∙◌}
-use mathlib.Core.Bool.{Bool, true, false, ◌&&◌}
+use mathlib.Core.Bool.{Bool, true, false, not, ◌&&◌}
 use mathlib.Core.List.{List}
 use lib.ListN.{length}
 use lib.Seq.{sets}
 use lib.Ieee.{Float}
+use Rattle.std.proofs.lemmas.Bool.{not-false, not-true}
 use Rattle.solver_body.specs.declared.SolverBody.{SolverBody}
 use Rattle.tick.specs.declared.joint.JointResult.{JointResult}
 use Rattle.numbers.specs.Lists.{after}
@@ -28,14 +29,14 @@ module _ (K : Linkage) (s : List Float) where
 
   -- joint j is solved
   module _ (j : ℕ) (w : List SolverBody) (t : List Float) {r : JointResult} (e : r ≡ result_at K s j (solved_by K s true j (solved_in K w t))) where
-    pub solve_more : r.finite ≡ true → {w' : List SolverBody} {t' : List Float} → w' ≡ put_pair K j r.bodies w → t' ≡ sets t (state_length (length K.bodies) j) (totals_numbers r.totals)
+    pub solve_more : not r.finite ≡ false → {w' : List SolverBody} {t' : List Float} → w' ≡ put_pair K j r.bodies w → t' ≡ sets t (state_length (length K.bodies) j) (totals_numbers r.totals)
         → j < length K.joints → length t ≡ state_length (length K.bodies) (length K.joints) → solved_in K w' t' ≡ solve_next K s true j (solved_in K w t)
     unfolding solve_next
-    solve_more f ew et k room = rw (rw e at f, ew, et, totals_put t (length K.bodies) j r.totals (length K.joints) k (omega (arith, room)), e)
+    solve_more f ew et k room = rw (rw e at (not-false _ f), ew, et, totals_put t (length K.bodies) j r.totals (length K.joints) k (omega (arith, room)), e)
 
-    pub solve_stop : r.finite ≡ false → (solve_next K s true j (solved_in K w t)).finite ≡ false
+    pub solve_stop : not r.finite ≡ true → (solve_next K s true j (solved_in K w t)).finite ≡ false
     unfolding solve_next
-    solve_stop f = rw e at f
+    solve_stop f = rw e at (not-true _ f)
 
   -- a solve that stops stays stopped
   pub solve_last : (σ₀ : Solved) {j n : ℕ} {σ : Solved} → σ ≡ after (solve_next K s true) σ₀ j → (solve_next K s true j σ).finite ≡ false → j < n

@@ -8,7 +8,7 @@ use mathlib.Core.List.{List, [], ◌∷◌, ◌++◌}
 use lib.ListN.{length, length-map}
 use lib.Dec.{eqb}
 use lib.Ieee.{Float}
-use borrow.Author.Tests.{eq-eqb, ne_eqb, lt-ltb}
+use borrow.Author.Tests.{eq-eqb, ne_eqb}
 use Rattle.numbers.specs.Lists.{after}
 use Rattle.numbers.proofs.Loops.{after_none, after_more, after_kept}
 use Rattle.card.specs.Card.{edition_at, card_of}
@@ -21,7 +21,7 @@ use Rattle.loader.specs.declared.header.Header.{Header}
 use Rattle.state.specs.State.{Answered, state_length, bad_numbers, start_checks, state_checks, answered, unless_refused}
 use Rattle.tick.specs.Tick.{turned_linkage, solved, new_state, stopped}
 use Rattle.tick.specs.Run.{Ran, tick_of, tick_next, run_of}
-use Rattle.tick.specs.Work.{ran, next_tick, ticks_next, ticks_of, ran_to, all_or_nothing}
+use Rattle.tick.specs.Work.{ran, next_tick, ticks_next, ticks_of, all_or_nothing}
 use Rattle.tick.proofs.Ends.{new_length}
 use Rattle.tick.proofs.Turning.{bodies_turned, joints_turned}
 
@@ -45,10 +45,6 @@ module _ (K : Linkage) (s₀ : List Float) where
     ticks_stop {n} h f =
         let here : ran 13 i s ≡ ticks_of K s₀ (i + 1) = rw f at turn in
         here ∙ sym (after_kept (ticks_next K) (ran 0 0 s₀) (i + 1) n (omega arith) (λ m. rw (← here)))
-
--- not all of them were done
-pub done_some : {r n : ℕ} (s : List Float) → r < n → ran_to n r s ≡ ran 13 r s
-done_some {r} {n} s h = rw (lt-ltb r n h)
 
 -- ---- the checks
 

@@ -1,5 +1,5 @@
 -- What the steps of a tick and the ticks of a run hand to each other: Tick.antt needs none of it.
-use Rattle.std.specs.Prelude.{ℕ, ◌+◌, Bool, true, false, List, length, eqb, ltb, Float, if◌then◌else◌}
+use Rattle.std.specs.Prelude.{ℕ, ◌+◌, Bool, true, false, List, length, eqb, Float, if◌then◌else◌}
 use Rattle.joints.specs.declared.Joint.{Joint}
 use Rattle.joints.specs.declared.Joint.TheVariants.{Fixed, Revolute, Prismatic, Spherical, Distance}
 use Rattle.solver_body.specs.declared.SolverBody.{SolverBody}
@@ -48,10 +48,6 @@ ticks_next K i a = if eqb a.number 0 then next_tick K a else a
 
 unfoldable pub ticks_of : Linkage → List Float → ℕ → Ran
 ticks_of K s n = after (ticks_next K) (ran 0 0 s) n
-
--- so many of n ticks were done
-abbrev pub ran_to : ℕ → ℕ → List Float → Ran
-ran_to n ticks s = ran (if ltb ticks n then 13 else 0) ticks s
 
 -- a refused run leaves the state as it was
 abbrev pub all_or_nothing : List Float → Ran → Ran

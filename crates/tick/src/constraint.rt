@@ -34,6 +34,7 @@ use xpbd_joints::prismatic::PrismaticJointSolverData;
 use xpbd_joints::revolute::RevoluteJointSolverData;
 use xpbd_joints::spherical::SphericalJointSolverData;
 
+// Each impl hands `prepare` and `solve` on to the kind's own solver data: a default method would need a trait of these that says the same three calls again.
 pub trait XpbdConstraint: Copy {
     type SolverData: Finite + Copy;
 

@@ -58,7 +58,6 @@ impl Finite for SymmetricTensor {
 impl<A: Finite + Copy, B: Finite + Copy> Finite for (A, B) {
     ghost numbers = { λ v. A.numbers v.0 ++ B.numbers v.1 };
 
-    #[inline(always)]
     #[tactic(auto, using(crate::proofs::All::both))]
     fn finite(self) -> bool {
         self.0.finite() & self.1.finite()
@@ -74,9 +73,11 @@ impl<A: Finite + Copy, B: Finite + Copy, C: Finite + Copy> Finite for (A, B, C) 
     }
 }
 
-impl Finite for (Vec3, Vec3, Vec3, Vec3) {
-    ghost numbers = { λ v. four_numbers v.0 v.1 v.2 v.3 };
+impl<A: Finite + Copy, B: Finite + Copy, C: Finite + Copy, D: Finite + Copy> Finite
+    for (A, B, C, D) {
+    ghost numbers = { λ v. A.numbers v.0 ++ B.numbers v.1 ++ C.numbers v.2 ++ D.numbers v.3 };
 
+    #[tactic(auto, using(crate::proofs::All::four))]
     fn finite(self) -> bool {
         self.0.finite() & self.1.finite() & self.2.finite() & self.3.finite()
     }
@@ -162,9 +163,12 @@ impl Finite for SolverBody {
     ghost numbers = { solver_numbers };
 
     fn finite(self) -> bool {
-        self.linear_velocity.finite()
-            & self.angular_velocity.finite()
-            & self.delta_position.finite()
-            & self.delta_rotation.finite()
+        (
+            self.linear_velocity,
+            self.angular_velocity,
+            self.delta_position,
+            self.delta_rotation,
+        )
+            .finite()
     }
 }

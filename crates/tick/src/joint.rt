@@ -18,7 +18,8 @@ pub struct JointResult {
     pub totals: JointTotals,
 }
 
-// Of the numbers that refusal 13 looks at, only the prepared ones are tested by kind.
+// Of the numbers that refusal 13 looks at, only the prepared ones are tested by kind. The parameters are those of the kinds' own `solve`: as a struct each function on the way
+// would take it apart first.
 fn solve_constraint<C: XpbdConstraint>(
     joint: C,
     body1: RigidBody,

@@ -7,5 +7,6 @@ pub mod finite;
 pub mod joint;
 mod linked;
 pub mod run;
+mod running;
 mod steps;
 mod turn;

@@ -1,14 +1,18 @@
-// A tick's linkage and state, and one body or one joint of it, of the solver's bodies as it finds them.
-ghost use Rattle.std.specs.Prelude.{◌≡◌, true, ◌<◌, length};
+// A tick's linkage and state, and one body or one joint of it.
+ghost use Rattle.std.specs.Prelude.{◌≡◌, true, ◌<◌, length, if◌then◌else◌};
 ghost use Rattle.loader.specs.Parts.{linkage_in};
-ghost use Rattle.state.specs.State.{state_length};
-ghost use Rattle.tick.specs.Tick.{Solved, body, put, pair, put_pair, rigid, warmed_by, solved_by};
+ghost use Rattle.xpbd_joints.specs.Steps.{no_totals, run};
+ghost use Rattle.state.specs.State.{state_length, body_at};
+ghost use Rattle.tick.specs.Body.{finished_body};
+ghost use Rattle.tick.specs.Tick.{body, joint, put, pair, rigid, setting, steps, warmed_by};
 ghost use Rattle.tick.specs.Work.{result_at};
 
+use crate::body::finish;
 use crate::joint::{JointResult, solve_joint, warm_start_joint};
 use loader::linkage::Linkage;
-use solver_body::{BodyPair, RigidBody, SolverBody, SolverBodyInertia};
-use state::places;
+use solver_body::{BodyPair, BodyState, RigidBody, SolverBody, SolverBodyInertia};
+use state::places::{BODY_NUMBERS, Numbers, state_length};
+use xpbd_joints::JointTotals;
 
 // A linkage, its inertias turned, and the state that it is in.
 #[derive(Clone, Copy)]
@@ -18,89 +22,126 @@ pub struct Tick<'b, 'j, 's> {
     pub ghost sized: { length state.now ≡ state_length (length linkage.bodies.now) (length linkage.joints.now) },
 }
 
-impl<'b, 'j, 's> Tick<'b, 'j, 's> {
-    // A body where the state has it.
-    pub fn rigid(&self, i: usize) -> RigidBody
-        requires { i < length self.now.linkage.bodies.now }
-        ensures { result ≡ rigid (linkage_in self.now.linkage) self.now.state.now i }
+#[derive(Clone, Copy)]
+pub struct BodyAt<'b, 'j, 's> {
+    pub tick: Tick<'b, 'j, 's>,
+    pub i: usize,
+    pub ghost inside: { i < length tick.linkage.bodies.now },
+}
+
+impl<'b, 'j, 's> BodyAt<'b, 'j, 's> {
+    // Where the state has it.
+    fn rigid(&self) -> RigidBody
+        ensures { result ≡ rigid (linkage_in self.now.tick.linkage) self.now.tick.state.now self.now.i }
     {
-        let b = places::body_at(self.state, i);
+        let b = BodyState::read(self.tick.state, BODY_NUMBERS * self.i);
         RigidBody {
             position: b.position,
             rotation: b.rotation,
-            center_of_mass: self.linkage.bodies[i].center_of_mass,
+            center_of_mass: self.tick.linkage.bodies[self.i].center_of_mass,
         }
     }
 
-    pub fn inertia(&self, i: usize) -> SolverBodyInertia
-        requires { i < length self.now.linkage.bodies.now }
-        ensures { result ≡ (body (linkage_in self.now.linkage) i).inertia }
+    pub fn inertia(&self) -> SolverBodyInertia
+        ensures { result ≡ (body (linkage_in self.now.tick.linkage) self.now.i).inertia }
     {
-        self.linkage.bodies[i].inertia
+        self.tick.linkage.bodies[self.i].inertia
     }
 
     // An anchored body's place keeps the dummy.
-    pub fn put(&self, i: usize, b: SolverBody, bodies: &mut [SolverBody])
-        requires { (i < length self.now.linkage.bodies.now) × (length bodies.old ≡ length self.now.linkage.bodies.now) }
-        ensures { bodies.new ≡ put (linkage_in self.now.linkage) i b bodies.old }
+    pub fn put(&self, b: SolverBody, bodies: &mut [SolverBody])
+        requires { length bodies.old ≡ length self.now.tick.linkage.bodies.now }
+        ensures { bodies.new ≡ put (linkage_in self.now.tick.linkage) self.now.i b bodies.old }
     {
-        if !self.linkage.bodies[i].anchored {
-            bodies[i] = b;
+        if !self.tick.linkage.bodies[self.i].anchored {
+            bodies[self.i] = b;
         }
     }
 
-    // Joint j's two bodies.
-    fn pair(&self, j: usize, bodies: &[SolverBody]) -> BodyPair
-        requires { (j < length self.now.linkage.joints.now) × (length bodies.now ≡ length self.now.linkage.bodies.now) }
-        ensures { result ≡ pair (linkage_in self.now.linkage) j bodies.now }
+    // Its new numbers: an anchored one's stay.
+    pub fn finish(&self, pre_solve: SolverBody, b: SolverBody) -> BodyState
+        ensures { result ≡ (if (body (linkage_in self.now.tick.linkage) self.now.i).anchored then body_at self.now.tick.state.now self.now.i else finished_body (rigid (linkage_in self.now.tick.linkage) self.now.tick.state.now self.now.i) pre_solve b self.now.tick.linkage.dt) }
     {
-        let k = &self.linkage.joints[j];
+        if self.tick.linkage.bodies[self.i].anchored {
+            return BodyState::read(self.tick.state, BODY_NUMBERS * self.i);
+        }
+        finish(self.rigid(), pre_solve, b, self.tick.linkage.dt)
+    }
+}
+
+// With the solver's bodies as the joint finds them.
+#[derive(Clone, Copy)]
+pub struct JointAt<'b, 'j, 's, 'w> {
+    pub tick: Tick<'b, 'j, 's>,
+    pub bodies: &'w [SolverBody],
+    pub j: usize,
+    pub ghost inside: { j < length tick.linkage.joints.now },
+    pub ghost whole: { length bodies.now ≡ length tick.linkage.bodies.now },
+}
+
+impl<'b, 'j, 's, 'w> JointAt<'b, 'j, 's, 'w> {
+    // One for each of the joint's two bodies, as its record names them.
+    pub fn first(&self) -> BodyAt<'b, 'j, 's>
+        ensures { (result.tick ≡ self.now.tick) × (result.i ≡ (joint (linkage_in self.now.tick.linkage) self.now.j).body1) }
+    {
+        BodyAt {
+            tick: self.tick,
+            i: self.tick.linkage.joints[self.j].body1,
+        }
+    }
+
+    pub fn second(&self) -> BodyAt<'b, 'j, 's>
+        ensures { (result.tick ≡ self.now.tick) × (result.i ≡ (joint (linkage_in self.now.tick.linkage) self.now.j).body2) }
+    {
+        BodyAt {
+            tick: self.tick,
+            i: self.tick.linkage.joints[self.j].body2,
+        }
+    }
+
+    fn pair(&self) -> BodyPair
+        ensures { result ≡ pair (linkage_in self.now.tick.linkage) self.now.j self.now.bodies.now }
+    {
         BodyPair {
-            body1: bodies[k.body1],
-            body2: bodies[k.body2],
+            body1: self.bodies[self.first().i],
+            body2: self.bodies[self.second().i],
         }
     }
 
-    pub fn put_pair(&self, j: usize, pair: BodyPair, bodies: &mut [SolverBody])
-        requires { (j < length self.now.linkage.joints.now) × (length bodies.old ≡ length self.now.linkage.bodies.now) }
-        ensures { bodies.new ≡ put_pair (linkage_in self.now.linkage) j pair bodies.old }
+    pub fn warmed(&self) -> BodyPair
+        ensures { result ≡ warmed_by (linkage_in self.now.tick.linkage) self.now.tick.state.now self.now.j self.now.bodies.now }
     {
-        let k = &self.linkage.joints[j];
-        self.put(k.body1, pair.body1, bodies);
-        self.put(k.body2, pair.body2, bodies);
-    }
-
-    pub fn warmed(&self, j: usize, bodies: &[SolverBody]) -> BodyPair
-        requires { (j < length self.now.linkage.joints.now) × (length bodies.now ≡ length self.now.linkage.bodies.now) }
-        ensures { result ≡ warmed_by (linkage_in self.now.linkage) self.now.state.now j bodies.now }
-    {
-        let k = &self.linkage.joints[j];
+        let linkage = self.tick.linkage;
+        let first = self.first();
+        let second = self.second();
+        let at = state_length(linkage.bodies.len(), self.j);
         warm_start_joint(
-            k.joint,
-            self.rigid(k.body1),
-            self.rigid(k.body2),
-            places::totals_at(self.state, self.linkage.bodies.len(), j),
-            self.pair(j, bodies),
-            self.inertia(k.body1),
-            self.inertia(k.body2),
-            self.linkage.warm_coefficient,
-            self.linkage.dt,
+            linkage.joints[self.j].joint,
+            first.rigid(),
+            second.rigid(),
+            JointTotals::read(self.tick.state, at),
+            self.pair(),
+            first.inertia(),
+            second.inertia(),
+            linkage.warm_coefficient,
+            linkage.dt,
         )
     }
 
-    pub fn solved(&self, j: usize, bodies: &[SolverBody]) -> JointResult
-        requires { (j < length self.now.linkage.joints.now) × (length bodies.now ≡ length self.now.linkage.bodies.now) }
-        ensures { (σ : Solved) → σ.bodies ≡ bodies.now → result ≡ result_at (linkage_in self.now.linkage) self.now.state.now j (solved_by (linkage_in self.now.linkage) self.now.state.now true j σ) }
+    pub fn solved(&self) -> JointResult
+        ensures { result ≡ result_at (linkage_in self.now.tick.linkage) self.now.tick.state.now self.now.j (run (setting (linkage_in self.now.tick.linkage) true self.now.j) (steps (linkage_in self.now.tick.linkage) self.now.tick.state.now self.now.j) (record { bodies = pair (linkage_in self.now.tick.linkage) self.now.j self.now.bodies.now; totals = no_totals })) }
     {
-        let k = &self.linkage.joints[j];
+        let linkage = self.tick.linkage;
+        let first = self.first();
+        let second = self.second();
         solve_joint(
-            k.joint,
-            self.rigid(k.body1),
-            self.rigid(k.body2),
-            self.pair(j, bodies),
-            self.inertia(k.body1),
-            self.inertia(k.body2),
-            self.linkage.dt,
+            linkage.joints[self.j].joint,
+            first.rigid(),
+            second.rigid(),
+            self.pair(),
+            first.inertia(),
+            second.inertia(),
+            linkage.dt,
         )
     }
 }

@@ -1,24 +1,20 @@
 // Ticks: one, and several in a row. Each call is all or nothing.
-ghost use Rattle.std.specs.Prelude.{◌≡◌, true, false, ◌≤◌, length, IfOk, IfErr};
+ghost use Rattle.std.specs.Prelude.{◌≡◌, ◌≤◌, length};
 ghost use Rattle.card.specs.Answer.{number_of};
 ghost use Rattle.card.specs.Card.{card_of};
 ghost use Rattle.loader.specs.Linkage.{linkage_of};
-ghost use Rattle.loader.specs.Parts.{header_of, linkage_in};
+ghost use Rattle.loader.specs.Parts.{header_of};
 ghost use Rattle.state.specs.State.{state_length, answered};
-ghost use Rattle.tick.specs.Tick.{turned_linkage, new_state, stopped};
 ghost use Rattle.tick.specs.Run.{tick_of, run_of};
-ghost use Rattle.tick.specs.Work.{ran, ran_to, all_or_nothing, ticks_of};
+ghost use Rattle.tick.specs.Work.{ran, all_or_nothing, ticks_of};
 
-use crate::linked::Tick;
-use crate::steps::Stopped;
-use crate::turn::turn_bodies;
+use crate::running::Running;
 use card::accepted_card::Accepted;
 use card::checks::check;
 use card::refusal::Refusal;
 use loader::body::LinkBody;
 use loader::header::{Header, header_of};
 use loader::joint::LinkJoint;
-use loader::linkage::Linkage;
 use loader::load::load;
 use solver_body::SolverBody;
 use state::check::bad_numbers;
@@ -29,87 +25,6 @@ use state::places::{BODY_NUMBERS, JOINT_NUMBERS, state_length};
 pub struct RunAnswer {
     pub answer: Result<(), Refusal>,
     pub ticks: u32,
-}
-
-// One tick of a linkage whose bodies' inertias are along their own axes: it turns them first. A literal with a ghost field takes no `..own`.
-fn tick_once(
-    own: &Linkage,
-    state: &[f32],
-    turned: &mut [LinkBody],
-    bodies: &mut [SolverBody],
-    pre_solve: &mut [SolverBody],
-    new: &mut [f32],
-) -> Result<(), Stopped>
-    requires state { length state.now ≡ state_length (length own.now.bodies.now) (length own.now.joints.now) }
-    requires new { length new.old ≡ length state.now }
-    requires bodies { (length turned.old ≡ length own.now.bodies.now) × (length bodies.old ≡ length own.now.bodies.now) × (length pre_solve.old ≡ length own.now.bodies.now) }
-    ensures done { IfOk result (λ _. (stopped (turned_linkage (linkage_in own.now) state.now) state.now ≡ false) × (new.new ≡ new_state (turned_linkage (linkage_in own.now) state.now) state.now)) }
-    ensures stopped { IfErr result (λ _. stopped (turned_linkage (linkage_in own.now) state.now) state.now ≡ true) }
-{
-    turn_bodies(own, state, turned);
-    let linkage = Linkage {
-        dt: own.dt,
-        gravity: own.gravity,
-        warm_coefficient: own.warm_coefficient,
-        bodies: turned,
-        joints: own.joints,
-    };
-    Tick { linkage, state }.run(bodies, pre_solve, new)
-}
-
-// Ticks in a row up to the first that is stopped; how many were done.
-fn run_ticks(
-    own: &Linkage,
-    state: &mut [f32],
-    ticks: u32,
-    turned: &mut [LinkBody],
-    bodies: &mut [SolverBody],
-    pre_solve: &mut [SolverBody],
-    new: &mut [f32],
-) -> u32
-    requires state { length state.old ≡ state_length (length own.now.bodies.now) (length own.now.joints.now) }
-    requires new { length new.old ≡ length state.old }
-    requires bodies { (length turned.old ≡ length own.now.bodies.now) × (length bodies.old ≡ length own.now.bodies.now) × (length pre_solve.old ≡ length own.now.bodies.now) }
-    ensures { ran_to ticks result state.new ≡ ticks_of (linkage_in own.now) state.old ticks }
-{
-    for done in 0..ticks {
-        match tick_once(own, state, turned, bodies, pre_solve, new) {
-            Ok(()) => state.copy_from_slice(new),
-            Err(Stopped) => return done,
-        }
-    }
-    ticks
-}
-
-// Ticks on a copy of the state, which is written last: a tick that is stopped leaves it as it was.
-fn run_copy(
-    own: &Linkage,
-    state: &mut [f32],
-    ticks: u32,
-    turned: &mut [LinkBody],
-    bodies: &mut [SolverBody],
-    pre_solve: &mut [SolverBody],
-    copied: &mut [f32],
-    new: &mut [f32],
-) -> RunAnswer
-    requires state { length state.old ≡ state_length (length own.now.bodies.now) (length own.now.joints.now) }
-    requires numbers { (length copied.old ≡ length state.old) × (length new.old ≡ length state.old) }
-    requires bodies { (length turned.old ≡ length own.now.bodies.now) × (length bodies.old ≡ length own.now.bodies.now) × (length pre_solve.old ≡ length own.now.bodies.now) }
-    ensures { ran (number_of result.answer) result.ticks state.new ≡ all_or_nothing state.old (ticks_of (linkage_in own.now) state.old ticks) }
-{
-    copied.copy_from_slice(state);
-    let done = run_ticks(own, copied, ticks, turned, bodies, pre_solve, new);
-    if done < ticks {
-        return RunAnswer {
-            answer: Err(Refusal::Stopped),
-            ticks: done,
-        };
-    }
-    state.copy_from_slice(copied);
-    RunAnswer {
-        answer: Ok(()),
-        ticks: done,
-    }
 }
 
 // Ticks of a state that no check refuses, in scratch for at most so many bodies, joints and numbers of the state.
@@ -132,18 +47,17 @@ fn run_within<const ROOM: usize, const NUMBERS: usize>(
     let mut bodies = [SolverBody::DUMMY; ROOM];
     let mut pre_solve = [SolverBody::DUMMY; ROOM];
     let mut copied = [0.0; NUMBERS];
-    let mut new = [0.0; NUMBERS];
+    let mut next = [0.0; NUMBERS];
     let n = state.len();
-    run_copy(
-        &load(card, h, &mut own[..h.bodies], &mut joints[..h.joints]),
-        state,
-        ticks,
-        &mut turned[..h.bodies],
-        &mut bodies[..h.bodies],
-        &mut pre_solve[..h.bodies],
-        &mut copied[..n],
-        &mut new[..n],
-    )
+    Running {
+        own: load(card, h, &mut own[..h.bodies], &mut joints[..h.joints]),
+        state: &mut copied[..n],
+        turned: &mut turned[..h.bodies],
+        bodies: &mut bodies[..h.bodies],
+        pre_solve: &mut pre_solve[..h.bodies],
+        next: &mut next[..n],
+    }
+    .run(state, ticks)
 }
 
 const FEW: usize = 8;

@@ -4,6 +4,3 @@ use Rattle.replay_table.proofs.replay_card.Goals as goal
 
 pub slice_bounds-replay_run-end : goal.slice_bounds-replay_run-end
 slice_bounds-replay_run-end g c = sym (length-take-le _ _ (few _ c.in-Ok.ensures).2)
-
-pub slice_bounds-room-end : goal.slice_bounds-room-end
-slice_bounds-room-end g c = (few _ c.in-Ok.ensures).2

@@ -1,6 +1,6 @@
 -- A zero has no sign.
-use Rattle.std.proofs.Common.{◌≡◌, ℕ, zero, suc, ◌<◌, Bool, true, false, pos, refl, arith, le-leb}
-use lib.Ieee.{neg, in_float}
+use Rattle.std.proofs.Common.{◌≡◌, ℕ, zero, suc, ◌<◌, Bool, true, false, pos, refl, arith}
+use lib.Ieee.{neg}
 use Rattle.trig.specs.Interpolation.{over_unit}
 use Rattle.trig.specs.Parts.{signed}
 use Rattle.trig.proofs.WholeOverUnit.{minus_unit}
@@ -17,10 +17,6 @@ none false m e = refl
 minus : (s : Bool) (m : ℕ) → s ≡ true → 0 < m → neg (over_unit (pos m)) ≡ over_unit (signed s m)
 minus s zero e h = absurd (omega arith)
 minus s (suc m) e h = rw e (minus_unit m)
-
-pub int_to_float-v : goal.int_to_float-v
-unfolding in_float
-int_to_float-v c = rw (le-leb c.args.m 16777216 (omega arith)) tt
 
 pub returns-then-m-gt0 : goal.returns-then-m-gt0
 unfolding over_unit

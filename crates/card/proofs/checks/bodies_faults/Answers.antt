@@ -1,14 +1,12 @@
-use Rattle.std.proofs.Common.{◌+◌, ◌*◌, ◌-◌, arith, ◌∙◌}
+use Rattle.std.proofs.Common.{arith, refl, ◌∙◌}
 use Rattle.card.specs.Card.{body}
 use Rattle.card.specs.Parts.{body_faults}
-use Rattle.card.proofs.Faulty.{none, more}
+use Rattle.card.proofs.Chunks.{all_read}
+use Rattle.card.proofs.Faulty.{all_found}
 use Rattle.card.proofs.checks.bodies_faults.Goals as goal
 
-pub loop-i-init : goal.loop-i-init
-loop-i-init c = none body_faults body _ _
-
-pub loop-i-preserved : goal.loop-i-preserved
-loop-i-preserved c =
-    let i = c.loop-i.i in
-    let from = c.args.at + 94 * i in
-    c.or-f.ensures ∙ more body_faults body c.args.card.now (8 * c.args.at) from (from + 94 - from) i (omega arith) (omega arith) c.loop-i.invariant c.body_faults.ensures
+pub returns : goal.returns
+returns c =
+    let e = c.chunks_exact-part-items.ensures in
+    let p = c.loop-part in
+    p.invariant.1 ∙ all_found body body_faults p.yielded (all_read body 94 refl (omega arith) c.args.card.now c.args.at c.args.count c.requires e.size e.rest (omega arith) c.into_iter-part-iterator.ensures.into_iter_gives p.yielded _ _ p.yielded_by c.in-None.is c.next.ensures.steps)

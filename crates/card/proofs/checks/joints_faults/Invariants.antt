@@ -1,9 +1,9 @@
-use Prim.Native.Nat.{◌*◌}
-use mathlib.Core.Path.{◌≡◌}
-use Rattle.card.specs.Format.{records_at}
-use Rattle.card.specs.Card.{edition_of}
-use Rattle.card.specs.Parts.{edition_number, joint_faults, faults_of}
+use Rattle.std.proofs.Common.{◌≡◌}
+use Rattle.std.specs.Slice.Iter.{chunks_exact_size}
+use Rattle.card.specs.Parts.{joint_faults}
+use Rattle.card.proofs.Editions.{cells}
+use Rattle.card.proofs.Faulty.{found}
 use Rattle.card.proofs.checks.joints_faults.Given as goal
 
-abbrev pub invariant-loop-j : goal.invariant-loop-j
-invariant-loop-j l = let cs = (edition_of (edition_number l.edition)).joint in l.f ≡ faults_of (joint_faults cs) (records_at cs l.card (8 * l.at) l.j)
+abbrev pub invariant-loop-part : goal.invariant-loop-part
+invariant-loop-part l = let cs = (cells l.edition).joint in (chunks_exact_size l.part-iterator ≡ 123) × (l.f ≡ found cs (joint_faults cs) l.yielded)

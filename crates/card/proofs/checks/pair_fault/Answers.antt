@@ -3,7 +3,7 @@ use native.Mathlib.Omega.{arith}
 use mathlib.Core.Path.{◌≡◌, refl, sym, ap, ◌∙◌}
 use mathlib.Core.List.{List}
 use lib.ListN.{take, drop}
-use borrow.Author.Tests.{eq-eqb, le-leb, lt-leb, ne_eqb}
+use borrow.Author.Tests.{lt-leb, ne_eqb}
 use Rattle.card.specs.declared.records.BodyBits.{BodyBits}
 use Rattle.card.specs.Format.{numbers_at, records_at}
 use Rattle.card.specs.Card.{body}
@@ -20,15 +20,6 @@ anchored_at l at n a k h e eb =
     let place : 8 * (at + 94 * a) ≡ 8 * at + a * 752 = omega arith in
     let numbers = numbers_part l (at + 94 * a) k body (omega arith) ∙ ap (numbers_at body l) place ∙ sym (record_at body l (8 * at) n a h) in
     rw (eb, numbers) refl
-
-pub returns-then-bodies-a : goal.returns-then-bodies-a
-returns-then-bodies-a c = simp (records_length, le-leb _ _ c.if-bodies-a.true)
-
-pub returns-then-bodies-b : goal.returns-then-bodies-b
-returns-then-bodies-b c = simp (records_length, lt-leb _ _ c.if-bodies-a.false, le-leb _ _ c.if-bodies-b.true)
-
-pub returns-then-a-b : goal.returns-then-a-b
-returns-then-a-b c = simp (records_length, lt-leb _ _ c.if-bodies-a.false, lt-leb _ _ c.if-bodies-b.false, eq-eqb _ _ c.if-a-b.true)
 
 pub returns : goal.returns
 returns c =

@@ -1,16 +1,12 @@
 use native.Mathlib.Omega.{arith}
 use mathlib.Core.Path.{sym}
 use Rattle.std.proofs.lemmas.Result.{err_from_is_err_and}
-use Rattle.card.proofs.Accepted.{at_least_12}
 use Rattle.card.proofs.Refusals.{numbered}
 use Rattle.state.proofs.Starting.{fitting, sizes_refused, sizes_are}
 use Rattle.state.proofs.sizes.sizes.Goals as goal
 
-pub header_bits-h-requires : goal.header_bits-h-requires
-header_bits-h-requires c = omega (arith, at_least_12 _ c.in_ok-card.card.accepted)
-
 pub state_length-requires : goal.state_length-requires
-state_length-requires c = let f = fitting _ c.in_ok-card.card.accepted _ c.of.ensures c.header_bits-h.ensures in (f.0, f.1)
+state_length-requires c = omega (arith, fitting _ c.in_ok-card.card.accepted _ c.of.ensures c.header_bits-h.ensures)
 
 pub returns : goal.returns
 returns c =

@@ -13,8 +13,7 @@ use Rattle.tick.proofs.run.run.Goals as goal
 
 pub state_length-requires : goal.state_length-requires
 state_length-requires c =
-    let m = counts_within _ c.in-Ok.card.accepted c.header_of-h.ensures in
-    (omega (arith, m), omega (arith, m))
+    omega (arith, counts_within _ c.in-Ok.card.accepted c.header_of-h.ensures)
 
 pub bad_numbers-requires : goal.bad_numbers-requires
 bad_numbers-requires c =

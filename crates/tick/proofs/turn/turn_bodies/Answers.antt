@@ -13,7 +13,7 @@ loop-i-init c = sym (after_none _ _)
 pub loop-i-preserved : goal.loop-i-preserved
 unfolding turned_body
 loop-i-preserved c =
-    let same = turned_is (linkage_in c.args.linkage.now) c.args.state.now c.loop-i.i (omega arith) c.body_at.ensures _ c.turned.ensures in
+    let same = turned_is (linkage_in c.args.linkage.now) c.args.state.now c.loop-i.i (omega arith) c.read.ensures _ c.turned.ensures in
     after_turn _ _ c.loop-i.invariant (ap (λ b. set c.loop-i.turned c.loop-i.i b) same)
 
 pub returns : goal.returns

@@ -1,11 +1,8 @@
 use mathlib.Core.Path.{sym, ◌∙◌}
 use Rattle.std.proofs.lemmas.Result.{err_from_is_err_and}
 use Rattle.card.proofs.Refusals.{numbered}
-use Rattle.convert.proofs.Answers.{own_passed, by_16, own_refused}
+use Rattle.convert.proofs.Answers.{by_16, own_refused}
 use Rattle.convert.proofs.records.Way.convert.Goals as goal
-
-pub convert_accepted-requires : goal.convert_accepted-requires
-convert_accepted-requires c = rw c.in_ok-check_edition.ensures.bytes (own_passed _ _ (sym c.in_ok-check_edition.ensures.number)).0
 
 pub returns : goal.returns
 returns c = (rw c.in_ok-check_edition.ensures.bytes at c.convert_accepted.ensures) ∙ by_16 _ _ _ _ (sym c.in_ok-check_edition.ensures.number)

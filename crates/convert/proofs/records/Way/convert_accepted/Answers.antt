@@ -6,10 +6,8 @@ use lib.Dec.{ltb}
 use lib.Seq.{length-take-le}
 use borrow.Author.Tests.{ltb-false}
 use Rattle.card.proofs.Bools.{or_right}
-use Rattle.card.proofs.Accepted.{at_least_12}
 use Rattle.card.specs.Parts.{sizes_of}
 use Rattle.convert.specs.Parts.{length_in}
-use Rattle.convert.proofs.Starts.{small_header}
 use Rattle.convert.proofs.Accepting.{length_is, refused_16, done_16}
 use Rattle.convert.proofs.Editions.{row, size_is}
 use Rattle.convert.proofs.records.Way.convert_accepted.Goals as goal
@@ -17,12 +15,6 @@ use Rattle.convert.proofs.records.Way.convert_accepted.Goals as goal
 -- a slice that is not refused holds the result
 room : (large : Bool) {size n : ℕ} → (large || ltb size n) ≡ false → n ≤ size
 room large e = ltb-false _ _ (or_right large _ e)
-
-pub header_bits-h-requires : goal.header_bits-h-requires
-header_bits-h-requires c = omega (arith, at_least_12 c.args.card.bytes.now c.args.card.accepted)
-
-pub length_in-length-requires : goal.length_in-length-requires
-length_in-length-requires c = rw c.header_bits-h.ensures (small_header c.args.card.bytes.now c.args.self.from)
 
 pub returns-then-too_large-out : goal.returns-then-too_large-out
 returns-then-too_large-out c =

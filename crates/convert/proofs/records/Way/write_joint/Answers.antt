@@ -1,12 +1,8 @@
 use mathlib.Core.Path.{ap, ◌∙◌}
 use lib.ListN.{take, drop}
-use Rattle.convert.proofs.Starts.{small_joint, joint_written}
+use Rattle.convert.proofs.Starts.{joint_written}
 use Rattle.convert.proofs.Editions.{row}
 use Rattle.convert.proofs.records.Way.write_joint.Goals as goal
-
-pub joint_bits_in-b-requires : goal.joint_bits_in-b-requires
-joint_bits_in-b-requires c =
-    rw c.joint_bits.ensures (small_joint c.args.part.now c.args.self.from)
 
 pub returns : goal.returns
 returns c =

@@ -1,11 +1,8 @@
 use Prim.Native.Nat.{◌+◌, ◌*◌, ◌-◌}
 use native.Mathlib.Omega.{arith}
-use Rattle.convert.proofs.Pieces.{none_made, next_made}
+use Rattle.convert.proofs.Pieces.{next_made}
 use Rattle.convert.proofs.Editions.{row}
 use Rattle.convert.proofs.records.Way.write_joints.Goals as goal
-
-pub loop-i-init : goal.loop-i-init
-loop-i-init c = none_made (row c.args.self.from) (row c.args.self.to) c.args.card.now c.args.at c.args.out.now
 
 pub loop-i-preserved : goal.loop-i-preserved
 loop-i-preserved c =

@@ -15,18 +15,17 @@ many c = ap length c.requires ∙ warmed_length (linkage_in c.args.self.now.link
 pub loop-i-init : goal.loop-i-init
 loop-i-init c = c.requires ∙ sym (after_none _ _)
 
-pub inertia-inertia-requires : goal.inertia-inertia-requires
-inertia-inertia-requires c = omega (arith, many (goal.at.inertia-inertia-requires c).Start)
+pub invariant_of-at : goal.invariant_of-at
+invariant_of-at c = record { inside = omega (arith, many (goal.at.invariant_of-at c).Start) }
 
 pub put-requires : goal.put-requires
-put-requires c = let m = many (goal.at.put-requires c).Start in (omega (arith, m), omega (arith, m))
+put-requires c = omega (arith, many (goal.at.put-requires c).Start)
 
 pub loop-i-preserved : goal.loop-i-preserved
 loop-i-preserved c =
     let K = linkage_in c.args.self.now.linkage in
     let i = c.loop-i.i in
-    let room = many (goal.at.loop-i-preserved c).Start in
-    let same = integrated_is K i (omega (arith, room)) c.loop-i.bodies (omega arith) c.inertia-inertia.ensures _ c.integrate-b.ensures in
+    let same = integrated_is K i c.loop-i.bodies (omega arith) c.inertia.ensures _ c.integrate-b.ensures in
     after_turn _ _ c.loop-i.invariant (c.put.ensures ∙ ap (λ b. put K i b c.loop-i.bodies) same)
 
 pub returns : goal.returns

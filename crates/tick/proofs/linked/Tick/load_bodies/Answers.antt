@@ -12,7 +12,7 @@ loop-i-init c = (rw c.requires at (c.fill.ensures.after (λ y h. h))) ∙ sym (a
 pub loop-i-preserved : goal.loop-i-preserved
 loop-i-preserved c =
     let K = linkage_in c.args.self.now.linkage in
-    after_turn _ _ c.loop-i.invariant (c.put.ensures ∙ ap (λ b. put K c.loop-i.i b c.loop-i.bodies) (c.from.ensures ∙ ap solver_body_of c.body_at.ensures))
+    after_turn _ _ c.loop-i.invariant (c.put.ensures ∙ ap (λ b. put K c.loop-i.i b c.loop-i.bodies) (c.from-loaded.ensures ∙ ap solver_body_of c.read.ensures))
 
 pub returns : goal.returns
 unfolding loaded
