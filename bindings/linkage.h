@@ -1,7 +1,8 @@
 /* The linkage table's calls for C and C++ on x86-64: link liblinkage.a and -lm.
  *
- * Card and state. A card is any bytes, of either edition. A state has LINKAGE_BODY_NUMBERS floats for each of the card's bodies (position, rotation x y z w, linear and angular
- * velocity) and then LINKAGE_JOINT_NUMBERS for each of its joints; linkage_sizes says how many that is for a card, and another length is refused by 11.
+ * Card and state. A card is any bytes, of any edition. A state has LINKAGE_BODY_NUMBERS floats for each of the card's bodies (position, rotation x y z w, linear
+ * and angular velocity) and then LINKAGE_JOINT_NUMBERS for each of its joints (its pushes, and last 0 for whole or 1 for broken); linkage_sizes says how many that
+ * is for a card, and another length is refused by 11.
  *
  * Answers. Each call takes any bytes and any floats, ends, and answers 0 or the number of a refusal (docs/CARD.md), and then the state, or the slice for a result, is as
  * it was. A count that a pointer leads to is written by every call that takes it, refused or not, and is not read; that pointer must not be null. errno may change.
@@ -46,20 +47,23 @@ struct linkage_edition {
 static const struct linkage_edition linkage_editions[] = {
     {1, 12, 94, 123, 32, 32, 16, 1000},
     {2, 16, 94, 123, 200, 200, 16, 4000},
+    {3, 16, 94, 127, 200, 200, 16, 4000},
 };
 
 enum {
     LINKAGE_EDITIONS = sizeof linkage_editions / sizeof linkage_editions[0],
     /* The floats of a body and of a joint in the state. */
     LINKAGE_BODY_NUMBERS = 13,
-    LINKAGE_JOINT_NUMBERS = 12,
+    LINKAGE_JOINT_NUMBERS = 13,
     /* Where they begin among a body's. */
     LINKAGE_POSITION = 0,
     LINKAGE_ROTATION = 3,
     LINKAGE_LINEAR_VELOCITY = 7,
     LINKAGE_ANGULAR_VELOCITY = 10,
+    /* Where 0 for whole or 1 for broken stands among a joint's. */
+    LINKAGE_BROKEN = 12,
     /* The largest of all editions. */
-    LINKAGE_MOST_CARD_BYTES = 16 + 94 * 200 + 123 * 200,
+    LINKAGE_MOST_CARD_BYTES = 16 + 94 * 200 + 127 * 200,
     LINKAGE_MOST_STATE_NUMBERS = LINKAGE_BODY_NUMBERS * 200 + LINKAGE_JOINT_NUMBERS * 200,
     LINKAGE_STACK_BYTES = 120 * 1024,
     LINKAGE_SMALL_STACK_BYTES = 28 * 1024
@@ -74,8 +78,8 @@ enum linkage_answer {
     LINKAGE_WRONG_RATE = 4,         /* The rate is outside its edition's slowest to fastest. */
     LINKAGE_WRONG_LENGTH = 5,       /* The length is not that of its edition's header, its bodies and its joints. */
     LINKAGE_UNUSED_BITS = 6,        /* A zero bit, or a bit of a field without use in its record, is set, or a kind, limit or motor bit does not fit. */
-    LINKAGE_FLOAT_OUT_OF_RANGE = 7, /* A float is not finite or over 1,024 in size (a cap: FLT_MAX), or one that may not be is below zero: a compliance, an
-                                       inverse mass, a cap, the warm coefficient. */
+    LINKAGE_FLOAT_OUT_OF_RANGE = 7, /* A float is not finite or over 1,024 in size (a cap and a breaking load: FLT_MAX), or one that may not be is below zero: a
+                                       compliance, an inverse mass, a cap, a breaking load, the warm coefficient. */
     LINKAGE_LIMIT_ORDER = 8,        /* A limit's min is above its max. */
     LINKAGE_NOT_UNIT = 9,           /* The squares of a used rotation, basis or axis do not sum to 1, give or take 2^-10. */
     LINKAGE_WRONG_BODIES = 10,      /* A joint names a missing body, one body twice, or two anchored ones. */
@@ -86,7 +90,8 @@ enum linkage_answer {
     LINKAGE_CONVERSION = 16,        /* Asked by a conversion alone, after the card's refusals. The card has over 32 bodies or joints or a rate over 1,000 and is to
                                        be of edition 1, or the slice is too short for the result. */
     LINKAGE_DOMINANCE = 17,         /* Asked directly after 6. A moving body's dominance is not zero: the card is to be redrawn with an anchored body. */
-    LINKAGE_ANGLE_LIMIT = 19        /* Asked directly after 7. A limit of a hinge or a ball has a min or max over 7 in size. */
+    LINKAGE_ANGLE_LIMIT = 19,       /* Asked directly after 7. A limit of a hinge or a ball has a min or max over 7 in size. */
+    LINKAGE_JOINT_MARK = 21         /* Asked directly after 12. A joint's last number in the state has other bits than those of 0 and 1. */
 };
 
 /* An answer in words. */
@@ -109,6 +114,7 @@ static inline const char *linkage_text(uint32_t answer) {
     case LINKAGE_CONVERSION: return "the card is too large or too fast for the other edition, or the slice too short for its bytes";
     case LINKAGE_DOMINANCE: return "a body of the card has a dominance, which is no longer known: an anchored body is to take its place";
     case LINKAGE_ANGLE_LIMIT: return "an angle limit of a hinge or a ball is over 7 radians in size";
+    case LINKAGE_JOINT_MARK: return "a joint of the state is neither whole nor broken";
     default: return "an answer that this version does not know";
     }
 }
@@ -132,8 +138,8 @@ uint32_t linkage_tick(const uint8_t *card, size_t card_bytes, float *state, size
 /* Ticks in a row, all or none: where one is refused, the state is as it was, and done is how many were made before it. 0 ticks are refused by 1 to 11 alone. */
 uint32_t linkage_run(const uint8_t *card, size_t card_bytes, float *state, size_t state_numbers, uint32_t ticks, uint32_t *done);
 
-/* A card of the other edition as one of edition 1 or 2, with every other field as it is, written to the front of a slice, and its length in bytes; 0 where it is
- * refused. A card converted and converted back has the same bytes. */
+/* A card of edition 2 as one of edition 1, or the other way, with every other field as it is, written to the front of a slice, and its length in bytes; 0 where
+ * it is refused. A card converted and converted back has the same bytes. */
 uint32_t linkage_to_edition_1(const uint8_t *card, size_t card_bytes, uint8_t *out, size_t out_bytes, uint32_t *length);
 uint32_t linkage_to_edition_2(const uint8_t *card, size_t card_bytes, uint8_t *out, size_t out_bytes, uint32_t *length);
 

@@ -35,19 +35,29 @@ static void put_float(uint8_t *at, float number) {
     put(at, bits, 4);
 }
 
+/* Whether an edition has bodies' numbers of 8 bits, as 2 and 3 have. */
+static int is_wide(uint32_t edition) {
+    return edition == 2 || edition == 3;
+}
+
+/* A joint's bytes by the card's edition. */
+static size_t joint_bytes(const struct card *card) {
+    return card->bytes[0] == 3 ? JOINT + 4 : JOINT;
+}
+
 /* The header's bytes by its edition. */
 static size_t header_of(const struct card *card) {
-    return card->bytes[0] == 2 ? 16 : 12;
+    return is_wide(card->bytes[0]) ? 16 : 12;
 }
 
 static void put_header(struct card *card, uint32_t edition, uint32_t bodies, uint32_t joints, uint32_t rate) {
-    if (edition == 2) {
+    if (is_wide(edition)) {
         put(card->bytes, edition << 24 | bodies << 16 | joints << 8 | rate >> 8, 4);
         put(card->bytes + 4, rate << 24, 4);
     } else {
         put(card->bytes, edition << 24 | bodies << 18 | joints << 12 | rate << 2, 4);
     }
-    card->count = header_of(card) + BODY * bodies + JOINT * joints;
+    card->count = header_of(card) + BODY * bodies + joint_bytes(card) * joints;
 }
 
 static uint8_t *gravity_of(struct card *card) {
@@ -59,13 +69,13 @@ static uint8_t *body_of(struct card *card, uint32_t n) {
 }
 
 static uint8_t *joint_of(struct card *card, uint32_t bodies, uint32_t n) {
-    return body_of(card, bodies) + JOINT * n;
+    return body_of(card, bodies) + joint_bytes(card) * n;
 }
 
 static void put_tether(const struct card *card, uint8_t *joint, uint32_t body1, uint32_t body2) {
     uint32_t edition_1 = body1 << 16 | body2 << 11 | UINT32_C(1) << 10;
     uint32_t edition_2 = body1 << 13 | body2 << 5 | UINT32_C(1) << 4;
-    put(joint, UINT32_C(4) << 21 | (card->bytes[0] == 2 ? edition_2 : edition_1), 3);
+    put(joint, UINT32_C(4) << 21 | (is_wide(card->bytes[0]) ? edition_2 : edition_1), 3);
     put_float(joint + 91, 1.5f); /* The limit's max. */
 }
 
@@ -135,7 +145,7 @@ static void header_refusals(uint32_t edition) {
     struct card card = star(edition, 2, 1, 240);
     for (card.count = 0; card.count < 12; card.count++)
         card_refused(&card, LINKAGE_SHORT_CARD);
-    for (; card.count < header_of(&card) + 2 * BODY + JOINT; card.count++)
+    for (; card.count < header_of(&card) + 2 * BODY + joint_bytes(&card); card.count++)
         card_refused(&card, LINKAGE_WRONG_LENGTH);
     EXPECT(linkage_check(card.bytes, card.count) == LINKAGE_DONE);
     card.count++;
@@ -175,9 +185,9 @@ static void record_refusals(uint32_t edition) {
     EXPECT(linkage_check(card.bytes, card.count) == LINKAGE_DONE);
 }
 
-/* A card of either edition as it is drawn in both: over, back, a byte too short, past the result, and what edition 1 has no room for. */
+/* A card of edition 1 or 2 as it is drawn in both: over, back, a byte too short, past the result, and what edition 1 has no room for. One of edition 3. */
 static void conversions(void) {
-    const struct card first = star(1, 32, 32, 1000), second = star(2, 32, 32, 1000);
+    const struct card first = star(1, 32, 32, 1000), second = star(2, 32, 32, 1000), third = star(3, 32, 32, 1000);
     static uint8_t out[LINKAGE_MOST_CARD_BYTES];
     uint32_t length = UNWRITTEN;
     memset(out, 0xa5, sizeof out);
@@ -189,6 +199,8 @@ static void conversions(void) {
     conversion_refused(&second, 1, first.count - 1, LINKAGE_CONVERSION);
     conversion_refused(&first, 1, LINKAGE_MOST_CARD_BYTES, LINKAGE_WRONG_EDITION);
     conversion_refused(&second, 2, LINKAGE_MOST_CARD_BYTES, LINKAGE_WRONG_EDITION);
+    conversion_refused(&third, 1, LINKAGE_MOST_CARD_BYTES, LINKAGE_WRONG_EDITION);
+    conversion_refused(&third, 2, LINKAGE_MOST_CARD_BYTES, LINKAGE_WRONG_EDITION);
     const struct card large[] = {star(2, 33, 32, 1000), star(2, 32, 33, 1000), star(2, 32, 32, 1001), star(2, 200, 200, 4000)};
     for (size_t n = 0; n < sizeof large / sizeof *large; n++)
         conversion_refused(&large[n], 1, LINKAGE_MOST_CARD_BYTES, LINKAGE_CONVERSION);
@@ -196,11 +208,11 @@ static void conversions(void) {
 
 static void state_refusals(void) {
     struct card card = star(1, 2, 1, 240);
-    float state[38], before[38];
+    float state[39], before[39];
     uint32_t done;
     for (uint32_t numbers = 0; numbers <= 40; numbers++) {
         float foreign[40] = {1}, kept[40] = {1};
-        uint32_t refusal = numbers == 38 ? LINKAGE_DONE : LINKAGE_STATE_LENGTH;
+        uint32_t refusal = numbers == 39 ? LINKAGE_DONE : LINKAGE_STATE_LENGTH;
         EXPECT(run(&card, foreign, numbers, 0, &done) == refusal && done == 0);
         if (!refusal)
             continue;
@@ -209,10 +221,14 @@ static void state_refusals(void) {
         EXPECT(run(&card, foreign, numbers, 3, &done) == refusal && done == 0);
         EXPECT(memcmp(foreign, kept, sizeof foreign) == 0);
     }
-    EXPECT(linkage_start(card.bytes, card.count, state, 38) == LINKAGE_DONE);
+    EXPECT(linkage_start(card.bytes, card.count, state, 39) == LINKAGE_DONE);
+    state[2 * LINKAGE_BODY_NUMBERS + LINKAGE_BROKEN] = 2;
+    EXPECT(linkage_tick(card.bytes, card.count, state, 39) == LINKAGE_JOINT_MARK);
+    EXPECT(run(&card, state, 39, 3, &done) == LINKAGE_JOINT_MARK && done == 0);
+    EXPECT(run(&card, state, 39, 0, &done) == LINKAGE_DONE && done == 0);
     state[LINKAGE_BODY_NUMBERS + LINKAGE_POSITION] = 4097;
-    EXPECT(linkage_tick(card.bytes, card.count, state, 38) == LINKAGE_STATE_NUMBER);
-    EXPECT(run(&card, state, 38, 3, &done) == LINKAGE_STATE_NUMBER && done == 0);
+    EXPECT(linkage_tick(card.bytes, card.count, state, 39) == LINKAGE_STATE_NUMBER);
+    EXPECT(run(&card, state, 39, 3, &done) == LINKAGE_STATE_NUMBER && done == 0);
     struct card free_bodies = star(1, 2, 0, 16);
     EXPECT(linkage_start(free_bodies.bytes, free_bodies.count, state, 26) == LINKAGE_DONE);
     state[LINKAGE_BODY_NUMBERS + LINKAGE_POSITION] = 4090;
@@ -234,8 +250,8 @@ static int is_known(uint32_t edition) {
 }
 
 static void edition_limits(const struct linkage_edition *e) {
-    EXPECT(e->body_bytes == BODY && e->joint_bytes == JOINT);
     struct card largest = star(e->edition, e->most_bodies, e->most_joints, e->fastest);
+    EXPECT(e->body_bytes == BODY && e->joint_bytes == joint_bytes(&largest));
     EXPECT(header_of(&largest) == e->header_bytes && largest.count <= LINKAGE_MOST_CARD_BYTES);
     EXPECT(numbers_of(&largest) <= LINKAGE_MOST_STATE_NUMBERS);
     for (uint32_t more = 0; more < 2; more++) {
@@ -247,8 +263,8 @@ static void edition_limits(const struct linkage_edition *e) {
 }
 
 static void editions(void) {
-    struct card largest = star(2, 200, 200, 4000);
-    EXPECT(LINKAGE_EDITIONS == 2 && largest.count == LINKAGE_MOST_CARD_BYTES && numbers_of(&largest) == LINKAGE_MOST_STATE_NUMBERS);
+    struct card largest = star(3, 200, 200, 4000);
+    EXPECT(LINKAGE_EDITIONS == 3 && largest.count == LINKAGE_MOST_CARD_BYTES && numbers_of(&largest) == LINKAGE_MOST_STATE_NUMBERS);
     for (size_t n = 0; n < LINKAGE_EDITIONS; n++)
         edition_limits(&linkage_editions[n]);
     for (uint32_t edition = 0; edition < 256; edition++) {
@@ -261,11 +277,11 @@ static void editions(void) {
 
 static void nulls(void) {
     struct card card = star(1, 2, 1, 240);
-    float state[38];
+    float state[39];
     uint32_t bodies, joints, numbers, done, length;
     EXPECT(linkage_check(NULL, 0) == LINKAGE_SHORT_CARD);
     EXPECT(linkage_sizes(NULL, 0, &bodies, &joints, &numbers) == LINKAGE_SHORT_CARD);
-    EXPECT(linkage_start(NULL, 0, state, 38) == LINKAGE_SHORT_CARD);
+    EXPECT(linkage_start(NULL, 0, state, 39) == LINKAGE_SHORT_CARD);
     EXPECT(linkage_start(NULL, 0, NULL, 0) == LINKAGE_SHORT_CARD);
     EXPECT(linkage_tick(NULL, 0, NULL, 0) == LINKAGE_SHORT_CARD);
     EXPECT(linkage_run(NULL, 0, NULL, 0, 3, &done) == LINKAGE_SHORT_CARD);
@@ -283,6 +299,24 @@ static void ran(const struct card *card, uint32_t ticks, float *state) {
     uint32_t numbers = numbers_of(card), done;
     EXPECT(linkage_start(card->bytes, card->count, state, numbers) == LINKAGE_DONE);
     EXPECT(run(card, state, numbers, ticks, &done) == LINKAGE_DONE && done == ticks);
+}
+
+/* The second tether is taut from the start, and bears 1 N; the first is slack. */
+static void breaking(void) {
+    struct card card = star(3, 3, 2, 240);
+    put_float(joint_of(&card, 3, 1) + JOINT, 1);
+    float state[65], none[LINKAGE_BROKEN] = {0};
+    const float *first = state + 3 * LINKAGE_BODY_NUMBERS, *second = first + LINKAGE_JOINT_NUMBERS;
+    ran(&card, 0, state);
+    EXPECT(first[LINKAGE_BROKEN] == 0 && second[LINKAGE_BROKEN] == 0);
+    ran(&card, 1, state);
+    EXPECT(first[LINKAGE_BROKEN] == 0 && second[LINKAGE_BROKEN] == 1 && second[0] != 0);
+    for (uint32_t ticks = 2; ticks < 10; ticks++) {
+        ran(&card, ticks, state);
+        EXPECT(first[LINKAGE_BROKEN] == 0 && second[LINKAGE_BROKEN] == 1 && memcmp(second, none, sizeof none) == 0);
+    }
+    put_float(joint_of(&card, 3, 1) + JOINT, -1);
+    EXPECT(linkage_check(card.bytes, card.count) == LINKAGE_FLOAT_OUT_OF_RANGE);
 }
 
 static void addresses(void) {
@@ -313,7 +347,7 @@ static void *work(void *job) {
 }
 
 static void threads(void) {
-    struct card cards[2] = {star(2, 40, 40, 4000), star(1, 3, 2, 500)};
+    struct card cards[2] = {star(3, 40, 40, 4000), star(1, 3, 2, 500)};
     static struct job jobs[4];
     pthread_t thread[4];
     for (int n = 0; n < 4; n++) {
@@ -364,9 +398,9 @@ static size_t stack_of(struct card card) {
 }
 
 static void stack_depth(void) {
-    size_t any = stack_of(star(2, 200, 200, 4000));
+    size_t any = stack_of(star(3, 200, 200, 4000));
     EXPECT(any > LINKAGE_STACK_BYTES / 2 && any < LINKAGE_STACK_BYTES);
-    for (uint32_t edition = 1; edition <= 2; edition++) {
+    for (uint32_t edition = 1; edition <= LINKAGE_EDITIONS; edition++) {
         size_t small = stack_of(star(edition, 32, 32, 240));
         EXPECT(small > LINKAGE_SMALL_STACK_BYTES / 2 && small < LINKAGE_SMALL_STACK_BYTES);
     }
@@ -384,7 +418,7 @@ static void environment(void) {
 }
 
 int main(void) {
-    for (uint32_t edition = 1; edition <= 2; edition++) {
+    for (uint32_t edition = 1; edition <= LINKAGE_EDITIONS; edition++) {
         header_refusals(edition);
         record_refusals(edition);
     }
@@ -392,6 +426,7 @@ int main(void) {
     editions();
     conversions();
     nulls();
+    breaking();
     addresses();
     threads();
     stack_depth();

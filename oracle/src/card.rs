@@ -6,9 +6,11 @@ use crate::solver;
 /// A card of fewer is refused by 1, whichever edition it may be.
 pub const LEAST_BYTES: usize = 12;
 pub const BODY_BYTES: usize = 94;
-pub const JOINT_BYTES: usize = 123;
 pub const BODY_NUMBERS: usize = 13;
-pub const JOINT_NUMBERS: usize = 12;
+/// Four totals, and whether the joint is broken.
+pub const JOINT_NUMBERS: usize = 13;
+/// The place of that last number: +0.0 for a whole joint, 1.0 for a broken one.
+pub const BROKEN: usize = 12;
 pub const SLOWEST: u32 = 16;
 
 /// Where the editions differ. What is counted in bits is the width of a field.
@@ -21,6 +23,7 @@ pub struct Edition {
     pub zero_bits: usize,
     pub body_number_bits: usize,
     pub joint_zero_bits: usize,
+    pub joint_bytes: usize,
     /// The most bodies, and the most joints.
     pub most: usize,
     pub fastest: u32,
@@ -34,6 +37,7 @@ pub const EDITION_1: Edition = Edition {
     zero_bits: 2,
     body_number_bits: 5,
     joint_zero_bits: 7,
+    joint_bytes: 123,
     most: 32,
     fastest: 1000,
 };
@@ -47,11 +51,19 @@ pub const EDITION_2: Edition = Edition {
     zero_bits: 24,
     body_number_bits: 8,
     joint_zero_bits: 1,
+    joint_bytes: 123,
     most: 200,
     fastest: 4000,
 };
 
-pub const EDITIONS: [Edition; 2] = [EDITION_1, EDITION_2];
+/// Document 02, point 11: each joint ends with its breaking load.
+pub const EDITION_3: Edition = Edition {
+    number: 3,
+    joint_bytes: 127,
+    ..EDITION_2
+};
+
+pub const EDITIONS: [Edition; 3] = [EDITION_1, EDITION_2, EDITION_3];
 
 impl Edition {
     pub fn of_number(number: u32) -> Option<Edition> {
@@ -71,7 +83,12 @@ impl Edition {
     }
 
     pub fn card_bytes(&self, bodies: usize, joints: usize) -> usize {
-        self.header_bytes + BODY_BYTES * bodies + JOINT_BYTES * joints
+        self.header_bytes + BODY_BYTES * bodies + self.joint_bytes * joints
+    }
+
+    /// Whether its joints have a breaking load.
+    pub fn has_loads(&self) -> bool {
+        self.number == 3
     }
 }
 
@@ -125,6 +142,8 @@ pub struct Joint {
     pub limit2_range: [f32; 2],
     /// Target velocity, target position, cap, and the model's two floats.
     pub motor_numbers: [f32; 5],
+    /// In edition 3; 0 for a joint that never breaks.
+    pub breaking_load: f32,
 }
 
 pub const FIXED: u32 = 0;
@@ -187,6 +206,7 @@ impl Joint {
             limit1_range: [0.0; 2],
             limit2_range: [0.0; 2],
             motor_numbers: [0.0; 5],
+            breaking_load: 0.0,
         }
     }
 }
@@ -297,6 +317,9 @@ impl Card {
             w.floats(&joint.limit1_range);
             w.floats(&joint.limit2_range);
             w.floats(&joint.motor_numbers);
+            if edition.has_loads() {
+                w.floats(&[joint.breaking_load]);
+            }
         }
         w.bytes
     }
@@ -340,6 +363,10 @@ impl Card {
             limit1_range: r.floats(),
             limit2_range: r.floats(),
             motor_numbers: r.floats(),
+            breaking_load: match edition.has_loads() {
+                true => r.floats::<1>()[0],
+                false => 0.0,
+            },
         };
         self.bodies.clear();
         self.bodies.extend((0..bodies).map(|_| body(&mut r)));
@@ -478,6 +505,11 @@ fn within(numbers: &[f32]) -> bool {
     each(numbers, |number| number.abs() <= 1024.0)
 }
 
+/// A cap or a breaking load, up to the largest f32.
+fn not_negative(number: f32) -> bool {
+    number.is_finite() && number >= 0.0
+}
+
 /// 7 on a body.
 fn body_in_range(body: &Body) -> bool {
     within(&body.position)
@@ -502,8 +534,8 @@ fn joint_in_range(joint: &Joint) -> bool {
         && within(&joint.limit1_range)
         && within(&joint.limit2_range)
         && within(&[target_velocity, target_position, model1, model2])
-        && cap.is_finite()
-        && cap >= 0.0
+        && not_negative(cap)
+        && not_negative(joint.breaking_load)
         && !joint.compliances.iter().any(|compliance| *compliance < 0.0)
 }
 
@@ -559,15 +591,23 @@ pub fn position_in_range(position: &[f32]) -> bool {
     each(position, |number| number.abs() <= 4096.0)
 }
 
-/// 12, of a state of the right length.
+/// 12 and 21, of a state of the right length.
 pub fn check_state_numbers(card: &Card, state: &[f32]) -> Result<(), u32> {
-    let near = state[..BODY_NUMBERS * card.bodies.len()]
+    let (bodies, joints) = state.split_at(BODY_NUMBERS * card.bodies.len());
+    let near = bodies
         .chunks_exact(BODY_NUMBERS)
         .all(|body| position_in_range(&body[..3]));
-    if finite(state) && near {
-        Ok(())
-    } else {
+    let whole_or_broken = |joint: &[f32]| {
+        [0.0f32, 1.0]
+            .map(f32::to_bits)
+            .contains(&joint[BROKEN].to_bits())
+    };
+    if !(finite(state) && near) {
         Err(12)
+    } else if !joints.chunks_exact(JOINT_NUMBERS).all(whole_or_broken) {
+        Err(21)
+    } else {
+        Ok(())
     }
 }
 
@@ -722,7 +762,7 @@ mod tests {
         assert_eq!(check(&[]).err(), Some(1));
         assert_eq!(check(&bytes[..11]).err(), Some(1));
         assert_eq!(check(&bytes[..12]).err(), Some(5));
-        for (edition, number) in [(0, 2), (1, 0), (2, 0), (3, 2), (255, 2)] {
+        for (edition, number) in [(0, 2), (1, 0), (2, 0), (3, 0), (4, 2), (255, 2)] {
             expect(BALL, number, |card| card.edition = edition);
         }
         for edition in EDITIONS {
@@ -788,7 +828,7 @@ mod tests {
             assert_eq!(check(&bytes[..length]).err(), Some(5));
         }
         for (place, byte, number) in [
-            (0, 3, 2),
+            (0, 4, 2),
             (1, 0, 3),
             (1, 200, 5),
             (1, 201, 3),
@@ -1094,11 +1134,11 @@ mod tests {
     #[test]
     fn states() {
         let card = pair(SLIDE);
-        assert_eq!(card.state_length(), 38);
-        let state = vec![0.0; 38];
+        assert_eq!(card.state_length(), 39);
+        let state = vec![0.0; 39];
         assert!(check_state_length(&card, &state).is_ok());
         assert_eq!(check_state_length(&card, &state[1..]).err(), Some(11));
-        assert_eq!(check_state_length(&card, &[0.0; 39]).err(), Some(11));
+        assert_eq!(check_state_length(&card, &[0.0; 40]).err(), Some(11));
         for place in 0..38 {
             let position = place < 26 && place % 13 < 3;
             for (number, refused) in [
@@ -1113,8 +1153,42 @@ mod tests {
             ] {
                 let mut state = state.clone();
                 state[place] = number;
-                assert_eq!(check_state_numbers(&card, &state).is_err(), refused);
+                assert_eq!(check_state_numbers(&card, &state) == Err(12), refused);
             }
+        }
+        for (number, refused) in [
+            (0.0, false),
+            (1.0, false),
+            (-0.0, true),
+            (2.0, true),
+            (1f32.next_up(), true),
+            (f32::from_bits(1), true),
+        ] {
+            let mut state = state.clone();
+            state[38] = number;
+            assert_eq!(check_state_numbers(&card, &state) == Err(21), refused);
+        }
+    }
+
+    #[test]
+    fn bytes_of_edition_3() {
+        let mut card = pair(BALL);
+        card.edition = 3;
+        card.joints[0].breaking_load = f32::MAX;
+        let bytes = card.encode();
+        assert_eq!(bytes.len(), 16 + 2 * 94 + 127);
+        assert_eq!(bytes[16 + 2 * 94 + 123..], f32::MAX.to_be_bytes());
+        assert_eq!(format!("{:?}", check(&bytes).unwrap()), format!("{card:?}"));
+        for (load, number) in [
+            (0.0, 0),
+            (-0.0, 0),
+            (f32::from_bits(1), 0),
+            (-f32::from_bits(1), 7),
+            (f32::INFINITY, 7),
+            (f32::NAN, 7),
+        ] {
+            card.joints[0].breaking_load = load;
+            assert_eq!(answer(&card), number, "{load}");
         }
     }
 }

@@ -1,8 +1,8 @@
 //! Random and boundary inputs: numbers, poses, single joints, cards, damaged cards and states. Every draw follows from a seed.
 
 use crate::card::{
-    self, Body, Card, Edition, Joint, BALL, BODY_BYTES, BODY_NUMBERS, EDITIONS, EDITION_1,
-    EDITION_2, FIXED, HINGE, JOINT_BYTES, LEAST_BYTES, SLIDE, SLOWEST, TETHER,
+    self, Body, Card, Edition, Joint, BALL, BODY_BYTES, BODY_NUMBERS, BROKEN, EDITIONS, EDITION_1,
+    EDITION_2, EDITION_3, FIXED, HINGE, JOINT_NUMBERS, LEAST_BYTES, SLIDE, SLOWEST, TETHER,
 };
 use crate::large;
 use crate::solver::{Inertia, Motion, Pose};
@@ -241,6 +241,18 @@ impl Random {
             4 => self.pick(&[1e10, f32::from_bits(1), f32::MIN_POSITIVE, 1025.0, -0.0]),
             5 => self.between(0.0, 10.0),
             _ => 0.0,
+        }
+    }
+
+    /// Zero for a third of them: a joint that never breaks.
+    pub fn breaking_load(&mut self) -> f32 {
+        match self.below(9) {
+            0..3 => self.pick(&[0.0, 0.0, -0.0]),
+            3 => self.pick(&[f32::MAX, f32::MAX.next_down(), 1e10]),
+            4 => self.pick(&[f32::from_bits(1), f32::MIN_POSITIVE, 1e-6]),
+            5 => self.between(0.0, 1.0),
+            6 => self.between(0.0, 1024.0),
+            _ => self.between(0.0, 32.0),
         }
     }
 
@@ -524,6 +536,7 @@ impl JointCase {
             limit1_range: n[21..23].try_into().unwrap(),
             limit2_range: n[23..25].try_into().unwrap(),
             motor_numbers: n[25..30].try_into().unwrap(),
+            breaking_load: 0.0,
         };
         let inertia = |at: usize, locks: u32| Inertia {
             inv_mass: n[at],
@@ -850,7 +863,7 @@ fn pose_body(pose: &Pose) -> Body {
     }
 }
 
-/// A card without bodies, of either edition.
+/// A card without bodies, of any edition.
 pub(crate) fn header(random: &mut Random) -> Card {
     let edition = random.pick(&EDITIONS);
     Card {
@@ -1211,17 +1224,28 @@ pub(crate) fn scattered(random: &mut Random, mut card: Card, bodies: usize, join
     card
 }
 
+/// Breaking loads for a card of edition 3; another has none.
+pub fn with_loads(random: &mut Random, mut card: Card) -> Card {
+    if card.edition == EDITION_3.number {
+        for joint in &mut card.joints {
+            joint.breaking_load = random.breaking_load();
+        }
+    }
+    card
+}
+
 /// One of the above, and now and then a large one.
 pub fn card(random: &mut Random) -> Card {
     if random.one_in(LARGE) {
         return large::card(random);
     }
-    match random.below(8) {
+    let card = match random.below(8) {
         0 | 1 => any_card(random),
         2 => coincident(random),
         3 | 4 => linkage(random),
         _ => pair(random),
-    }
+    };
+    with_loads(random, card)
 }
 
 // ------------------------------------------------------------------------------------------------------------------------- damaged cards
@@ -1362,7 +1386,7 @@ pub fn floats_at_borders(bytes: &[u8]) -> Vec<Vec<u8>> {
     }
     for joint in 0..places.joints {
         let start = places.joint(joint);
-        floats.extend((start + 3..start + JOINT_BYTES).step_by(4));
+        floats.extend((start + 3..start + places.edition.joint_bytes).step_by(4));
     }
     let values = [
         0.0,
@@ -1598,6 +1622,12 @@ pub fn damage(random: &mut Random, bytes: &mut Vec<u8>, number: u32) {
         2..=5 => damage_header(random, bytes, number, &places),
         6 | 17 => damage_bits(random, bytes, number, &places),
         7 => {
+            if places.edition.has_loads() && places.joints > 0 && random.one_in(4) {
+                let load = random.pick(&[f32::NAN, f32::INFINITY, -f32::from_bits(1)]);
+                let joint = random.below(places.joints);
+                set_float(bytes, places.joint(joint + 1) - 4, load);
+                return;
+            }
             let value = random.pick(&[f32::NAN, f32::INFINITY, 1024f32.next_up(), -2000.0]);
             let place = match random.below(3) {
                 1 if places.bodies > 0 => {
@@ -1630,7 +1660,7 @@ fn damage_header(random: &mut Random, bytes: &mut Vec<u8>, number: u32, places: 
     let edition = &places.edition;
     let (counts, rates) = (edition.count_bits, edition.rate_bits);
     match number {
-        2 => bytes[0] = random.pick(&[0, 3, 4, 129, 255]),
+        2 => bytes[0] = random.pick(&[0, 4, 5, 129, 255]),
         3 => {
             let most = edition.most as u32;
             let over = random.pick(&[most + 1, most + 2, edition.last_count() as u32]);
@@ -1736,6 +1766,28 @@ pub fn damaged_card(random: &mut Random) -> Vec<u8> {
 
 // --------------------------------------------------------------------------------------------------------------------------------- states
 
+/// Each joint whole or broken; now and then one that is neither.
+fn mark_joints(random: &mut Random, card: &Card, state: &mut [f32]) {
+    let broken_one_in = random.pick(&[1, 2, 8, usize::MAX]);
+    for joint in state[BODY_NUMBERS * card.bodies.len()..].chunks_mut(JOINT_NUMBERS) {
+        joint[BROKEN] = random.one_in(broken_one_in) as u32 as f32;
+    }
+    if random.one_in(8) && !card.joints.is_empty() {
+        let joint = random.below(card.joints.len());
+        let at = card.state_length() - JOINT_NUMBERS * (joint + 1) + BROKEN;
+        state[at] = random.pick(&[
+            -0.0,
+            2.0,
+            -1.0,
+            f32::from_bits(1),
+            1f32.next_down(),
+            1f32.next_up(),
+            f32::NAN,
+            f32::INFINITY,
+        ]);
+    }
+}
+
 /// A state for a card: its start state, one that it ran to, or one that never was.
 pub fn state(random: &mut Random, card: &Card) -> Vec<f32> {
     let mut state = table::start_state(card);
@@ -1805,6 +1857,9 @@ pub fn state(random: &mut Random, card: &Card) -> Vec<f32> {
             }
         }
         _ => {}
+    }
+    if random.below(8) > 1 {
+        mark_joints(random, card, &mut state);
     }
     match random.below(24) {
         0 => {
@@ -1878,7 +1933,7 @@ mod tests {
 
     #[test]
     fn states_reach_each_refusal() {
-        let mut seen = [0; 14];
+        let mut seen = [0; 22];
         for case in 0..3000 {
             let random = &mut Random::of_case(5, case);
             let card = card(random);
@@ -1886,7 +1941,7 @@ mod tests {
             seen[table::tick(&card.encode(), &mut state) as usize] += 1;
         }
         assert!(
-            seen[0] > 1000 && seen[11] > 50 && seen[12] > 50 && seen[13] > 50,
+            seen[0] > 1000 && [11, 12, 13, 21].iter().all(|n| seen[*n] > 50),
             "{seen:?}"
         );
     }

@@ -1,13 +1,13 @@
-//! Cards that only edition 2 has room for.
+//! Cards that edition 1 has no room for.
 
-use crate::card::{Card, EDITION_1, EDITION_2};
+use crate::card::{Card, EDITION_1, EDITION_2, EDITION_3};
 use crate::families::{one_pair_of, star_of};
-use crate::generate::{linked, scattered, Random};
+use crate::generate::{linked, scattered, with_loads, Random};
 
-/// A header of edition 2, at a rate that edition 1 mostly doesn't have.
+/// A header of edition 2 or 3, at a rate that edition 1 mostly doesn't have.
 fn header(random: &mut Random) -> Card {
     Card {
-        edition: EDITION_2.number,
+        edition: random.pick(&[EDITION_2, EDITION_3]).number,
         rate: random.pick(&[EDITION_2.fastest, EDITION_2.fastest, 2000, 1001, 240]),
         zero: 0,
         gravity: random.pick(&[-9.81, 0.0, 1.0]),
@@ -36,12 +36,13 @@ pub fn linkage(random: &mut Random) -> Card {
 pub fn card(random: &mut Random) -> Card {
     let count = count(random);
     let card = header(random);
-    match random.below(5) {
+    let card = match random.below(5) {
         0 => star_of(random, card, count),
         1 => one_pair_of(random, card, count),
         2 => scattered(random, card, count, EDITION_2.most),
         _ => linkage(random),
-    }
+    };
+    with_loads(random, card)
 }
 
 #[cfg(test)]

@@ -1,11 +1,11 @@
 //! Document 01's tick in lean Rust: a card decoded once, avian's functions on components that are kept over the ticks of a run, and nothing taken from the
 //! heap. The benchmark times it beside the Rattle. `table` says what is right.
 
-use crate::card::{self, finite, Card, BODY_NUMBERS, EDITION_2, JOINT_NUMBERS};
+use crate::card::{self, finite, Card, BODY_NUMBERS, BROKEN, EDITION_2, JOINT_NUMBERS};
 use crate::compare::{Table, ORACLE};
 use crate::math;
 use crate::solver::{for_any_joint, AnyJoint};
-use crate::table::Ran;
+use crate::table::{self, Ran};
 use avian::dynamics::solver::solver_body::{
     SolverBodies, SolverBody, SolverBodyIndex, SolverBodyInertia,
 };
@@ -66,6 +66,8 @@ struct Joint {
     bodies: [usize; 2],
     anchored: [bool; 2],
     component: AnyJoint,
+    breaking_load: f32,
+    broken: bool,
 }
 
 impl From<&card::Body> for Body {
@@ -91,6 +93,8 @@ impl Joint {
             bodies: [body1, body2],
             anchored: [bodies[body1].anchored, bodies[body2].anchored],
             component: (&joint.solver_joint()).into(),
+            breaking_load: joint.breaking_load,
+            broken: false,
         }
     }
 }
@@ -128,7 +132,7 @@ impl Linkage {
         }
         if ticks > 0 {
             self.store_bodies(state);
-            self.store_totals(state);
+            self.store_joints(state);
         }
         Ran {
             number: 0,
@@ -136,7 +140,7 @@ impl Linkage {
         }
     }
 
-    /// Takes a card and a state, or gives the first refusal from 1 to 12. For no ticks it does not look at the state's numbers.
+    /// Takes a card and a state, or gives the first refusal of 1 to 12 and 21. For no ticks it does not look at the state's numbers.
     fn accept(&mut self, card: &[u8], state: &[f32], ticks: u32) -> Result<(), u32> {
         card::check_into(&mut self.card, card)?;
         card::check_state_length(&self.card, state)?;
@@ -144,7 +148,7 @@ impl Linkage {
             card::check_state_numbers(&self.card, state)?;
             self.make_components();
             self.load_bodies(state);
-            self.load_motor_totals(state);
+            self.load_joints(state);
         }
         Ok(())
     }
@@ -177,12 +181,13 @@ impl Linkage {
         }
     }
 
-    /// No other total is read.
-    fn load_motor_totals(&mut self, state: &[f32]) {
-        let totals = state[BODY_NUMBERS * self.bodies.len()..].chunks_exact(JOINT_NUMBERS);
-        for ((joint, of), totals) in self.joints.iter_mut().zip(&self.card.joints).zip(totals) {
+    /// No total is read but a motor's.
+    fn load_joints(&mut self, state: &[f32]) {
+        let joints = state[BODY_NUMBERS * self.bodies.len()..].chunks_exact(JOINT_NUMBERS);
+        for ((joint, of), numbers) in self.joints.iter_mut().zip(&self.card.joints).zip(joints) {
+            joint.broken = numbers[BROKEN] == 1.0;
             if let Some(place) = of.motor_total() {
-                let total = array(&totals[3 * place..3 * place + 3]);
+                let total = array(&numbers[3 * place..3 * place + 3]);
                 for_any_joint!(&mut joint.component, s => s.data.set_motor_total(total));
             }
         }
@@ -205,11 +210,12 @@ impl Linkage {
         }
     }
 
-    fn store_totals(&self, state: &mut [f32]) {
-        let totals = state[BODY_NUMBERS * self.bodies.len()..].chunks_exact_mut(JOINT_NUMBERS);
-        for (joint, totals) in self.joints.iter().zip(totals) {
-            let all = for_any_joint!(&joint.component, s => s.data.totals());
-            totals.copy_from_slice(all.as_flattened());
+    fn store_joints(&self, state: &mut [f32]) {
+        let joints = state[BODY_NUMBERS * self.bodies.len()..].chunks_exact_mut(JOINT_NUMBERS);
+        for (joint, numbers) in self.joints.iter().zip(joints) {
+            let totals = for_any_joint!(&joint.component, s => s.data.totals());
+            numbers[..BROKEN].copy_from_slice(totals.as_flattened());
+            numbers[BROKEN] = joint.broken as u32 as f32;
         }
     }
 }
@@ -229,7 +235,9 @@ impl Linkage {
         self.warm_start();
         self.integrate();
         self.solve()?;
-        self.finish()
+        self.finish()?;
+        self.break_joints();
+        Some(())
     }
 
     fn clear_deltas(&mut self) {
@@ -253,6 +261,13 @@ impl Linkage {
     fn prepare(&mut self) {
         let dt = self.time.delta_secs();
         for joint in &mut self.joints {
+            if joint.broken {
+                for_any_joint!(&mut joint.component, s => {
+                    s.data.clear_lagrange_multipliers();
+                    s.data.set_motor_total([0.0; 3]);
+                });
+                continue;
+            }
             let [body1, body2] = joint.bodies.map(|i| self.bodies[i].pose.read());
             for_any_joint!(&mut joint.component, s => {
                 s.data.set_motor_total(s.data.motor_total().map(|total| total / dt));
@@ -266,7 +281,7 @@ impl Linkage {
         let dt = self.time.delta_secs();
         let coefficient = self.card.warm_coefficient;
         let solver_bodies = self.solver_bodies.bodies_mut();
-        for joint in &mut self.joints {
+        for joint in self.joints.iter_mut().filter(|joint| !joint.broken) {
             let mut dummy = SolverBody::DUMMY;
             let bodies = two_of(solver_bodies, joint.bodies, joint.anchored, &mut dummy);
             let inertias = joint.bodies.map(|i| &self.inertias[i]);
@@ -303,7 +318,7 @@ impl Linkage {
     fn solve(&mut self) -> Option<()> {
         let dt = self.time.delta_secs();
         let solver_bodies = self.solver_bodies.bodies_mut();
-        for joint in &mut self.joints {
+        for joint in self.joints.iter_mut().filter(|joint| !joint.broken) {
             let mut dummy = SolverBody::DUMMY;
             let [body1, body2] = two_of(solver_bodies, joint.bodies, joint.anchored, &mut dummy);
             let inertias = joint.bodies.map(|i| &self.inertias[i]);
@@ -337,6 +352,18 @@ impl Linkage {
             }
         }
         Some(())
+    }
+
+    fn break_joints(&mut self) {
+        let dt = self.time.delta_secs();
+        for joint in self
+            .joints
+            .iter_mut()
+            .filter(|joint| joint.breaking_load != 0.0)
+        {
+            let totals = for_any_joint!(&joint.component, s => s.data.totals());
+            joint.broken |= table::breaks(joint.breaking_load, totals[0], dt);
+        }
     }
 }
 

@@ -1,6 +1,6 @@
 //! Document 01, 'One tick', 'Turned back' 13 and 'Examples': a state's size, start, tick, run, and the program's output.
 
-use crate::card::{self, Card, BODY_NUMBERS, JOINT_NUMBERS};
+use crate::card::{self, Card, BODY_NUMBERS, BROKEN, JOINT_NUMBERS};
 use crate::math;
 use crate::solver::{self, Inertia, Motion, Pose};
 use std::io::{self, Write};
@@ -130,7 +130,11 @@ fn motion_finite(motion: &Motion) -> bool {
 pub fn step(card: &Card, state: &mut [f32]) -> Result<(), u32> {
     card::check_state_numbers(card, state)?;
     let dt = card.dt();
-    let (body_numbers, totals) = state.split_at(BODY_NUMBERS * card.bodies.len());
+    let (body_numbers, joint_numbers) = state.split_at(BODY_NUMBERS * card.bodies.len());
+    let broken: Vec<bool> = joint_numbers
+        .chunks(JOINT_NUMBERS)
+        .map(|numbers| numbers[BROKEN] == 1.0)
+        .collect();
 
     let poses: Vec<Pose> = card
         .bodies
@@ -172,10 +176,10 @@ pub fn step(card: &Card, state: &mut [f32]) -> Result<(), u32> {
     let mut prepared: Vec<solver::Prepared> = card
         .joints
         .iter()
-        .zip(totals.chunks(JOINT_NUMBERS))
-        .map(|(joint, totals)| {
+        .zip(joint_numbers.chunks(JOINT_NUMBERS))
+        .map(|(joint, numbers)| {
             let warm = match joint.motor_total() {
-                Some(place) => array::<3>(&totals[3 * place..3 * place + 3]).map(|t| t / dt),
+                Some(place) => array::<3>(&numbers[3 * place..3 * place + 3]).map(|t| t / dt),
                 None => [0.0; 3],
             };
             solver::prepare(
@@ -188,6 +192,9 @@ pub fn step(card: &Card, state: &mut [f32]) -> Result<(), u32> {
         .collect();
 
     for (i, joint) in card.joints.iter().enumerate() {
+        if broken[i] {
+            continue;
+        }
         let (body1, body2) = (joint.body1 as usize, joint.body2 as usize);
         let (mut motion1, mut motion2) = (motions[body1], motions[body2]);
         let (inertia1, inertia2) = &inertias[i];
@@ -219,6 +226,9 @@ pub fn step(card: &Card, state: &mut [f32]) -> Result<(), u32> {
     let before_solve = motions.clone();
 
     for (i, joint) in card.joints.iter().enumerate() {
+        if broken[i] {
+            continue;
+        }
         let (body1, body2) = (joint.body1 as usize, joint.body2 as usize);
         let (mut motion1, mut motion2) = (motions[body1], motions[body2]);
         let (inertia1, inertia2) = &inertias[i];
@@ -268,14 +278,25 @@ pub fn step(card: &Card, state: &mut [f32]) -> Result<(), u32> {
         next.extend(motion.linear_velocity);
         next.extend(motion.angular_velocity);
     }
-    for joint in &prepared {
-        next.extend(joint.totals().iter().flatten());
+    for ((joint, prepared), broken) in card.joints.iter().zip(&prepared).zip(broken) {
+        let totals = match broken {
+            true => [[0.0; 3]; 4],
+            false => prepared.totals(),
+        };
+        next.extend(totals.iter().flatten());
+        let breaks = breaks(joint.breaking_load, totals[0], dt);
+        next.push((broken || breaks) as u32 as f32);
     }
     if !next.iter().all(|number| number.is_finite()) {
         return Err(13);
     }
     state.copy_from_slice(&next);
     Ok(())
+}
+
+/// Document 02, point 11: whether a whole joint that ends a tick with this first total breaks.
+pub fn breaks(load: f32, total: [f32; 3], dt: f32) -> bool {
+    load != 0.0 && math::length(total) / (dt * dt) > load
 }
 
 fn keep(card: &Card, motions: &mut [Motion], body: usize, motion: Motion) {
@@ -356,7 +377,7 @@ mod tests {
             of(
                 0,
                 &Card {
-                    edition: 3,
+                    edition: 4,
                     ..Card::example()
                 }
             ),
@@ -452,10 +473,10 @@ mod tests {
         assert_eq!(sizes(&card.encode()), of(1, 0, 13));
         card.bodies.push(Body::ANCHORED);
         card.joints = vec![Joint::plain(card::HINGE, 0, 1)];
-        assert_eq!(sizes(&card.encode()), of(2, 1, 38));
+        assert_eq!(sizes(&card.encode()), of(2, 1, 39));
         card.bodies = vec![Body::UNIT; 32];
         card.joints = vec![Joint::plain(card::HINGE, 0, 1); 32];
-        assert_eq!(sizes(&card.encode()), of(32, 32, 800));
+        assert_eq!(sizes(&card.encode()), of(32, 32, 832));
         card.joints[31].body2 = 0;
         let refused = Sizes {
             number: 10,
@@ -551,6 +572,58 @@ mod tests {
                     assert!(distance < 1.1, "{kind} {distance}");
                 }
             }
+        }
+    }
+
+    /// One product of dt with itself, one division, and above the load: the rate's square or two divisions would be a bit off here.
+    #[test]
+    fn a_push_is_divided_by_dt_squared() {
+        let dt = 1.0 / 240.0;
+        let total = [3.0 / 1024.0, 0.0, 0.0];
+        let borne = f32::from_bits(0x4328bfff);
+        assert_eq!(total[0] * (240.0 * 240.0), borne.next_up());
+        assert_eq!(total[0] / dt / dt, borne.next_down());
+        assert!(!breaks(borne, total, dt) && breaks(borne.next_down(), total, dt));
+        let dt = 1.0 / 64.0;
+        let total = [3.0 / 4096.0, 4.0 / 4096.0, 0.0];
+        assert!(!breaks(5.0, total, dt) && breaks(5f32.next_down(), total, dt));
+        // The squares overflow, and underflow.
+        assert!(breaks(f32::MAX, [2f32.powi(80), 0.0, 0.0], dt));
+        assert!(!breaks(f32::from_bits(1), [2f32.powi(-80), 0.0, 0.0], dt));
+        assert!(!breaks(0.0, [1.0; 3], dt) && !breaks(-0.0, [1.0; 3], dt));
+    }
+
+    /// A body that hangs on a joint, whose first total is what holds it for a tick.
+    #[test]
+    fn a_joint_breaks_above_its_load() {
+        let mut card = Card {
+            edition: 3,
+            rate: 64,
+            gravity: -8.0,
+            bodies: vec![Body::UNIT, Body::ANCHORED],
+            joints: vec![Joint::plain(card::BALL, 0, 1)],
+            ..Card::example()
+        };
+        let mut held = start_state(&card);
+        assert_eq!(step(&card, &mut held), Ok(()));
+        let total = array(&held[26..29]);
+        let borne = math::length(total) / (card.dt() * card.dt());
+        assert_eq!(borne, 8.0);
+        for (load, broken) in [
+            (0.0, 0.0),
+            (-0.0, 0.0),
+            (borne.next_down(), 1.0),
+            (borne, 0.0),
+            (borne.next_up(), 0.0),
+        ] {
+            card.joints[0].breaking_load = load;
+            let mut state = start_state(&card);
+            assert_eq!(step(&card, &mut state), Ok(()));
+            assert_eq!((&state[..38], state[38]), (&held[..38], broken));
+            assert_eq!(step(&card, &mut state), Ok(()));
+            let falls = state[1] < -1e-3;
+            assert_eq!((falls, state[38]), (broken == 1.0, broken));
+            assert_eq!(state[26..38] == [0.0; 12], falls);
         }
     }
 }

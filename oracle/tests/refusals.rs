@@ -48,6 +48,6 @@ fn examples_of_the_page() {
             seen.insert(cells[1].parse::<u32>().unwrap());
         }
     }
-    // 11 and 12 are of a state, which the program makes itself.
+    // 11, 12 and 21 are of a state, which the program makes itself.
     assert_eq!(seen, card::REFUSALS.into_iter().chain([13]).collect());
 }

@@ -23,4 +23,10 @@ examples =
       slow_2 = refl;
       short_2 = refl;
       shorter_2 = refl;
+      size_3 = refl;
+      zero_3 = refl;
+      largest_3 = refl;
+      infinite_3 = refl;
+      negative_3 = refl;
+      edition_4 = refl;
     }

@@ -15,13 +15,15 @@ use Rattle.card.specs.declared.records.JointBits.{JointBits}
 use Rattle.card.specs.declared.kinds.JointKind.{JointKind}
 use Rattle.card.specs.declared.checks.Faults.{Faults}
 use Rattle.card.specs.Format.{bits_at, bound, Cell, width_of, numbers_at, any_cell, unused_set, out_of}
-use Rattle.card.specs.Card.{at, flag, always, never, bits, header, moving, body, motored}
+use Rattle.card.specs.Card.{at, flag, always, never, bits, header, moving, body, motored, joint}
 use Rattle.card.specs.Checks.{misfit, too_wide, reversed, off_unit, off_axis}
-use Rattle.card.specs.Parts.{float_at, vec3_at, quat_at, wide_at, limit_at, norms_at, header_bits, body_bits, joint_bits, kind_for, any_to, set_at, outside_at, used_out, faults, field_faults, header_faults, body_faults, joint_faults}
+use Rattle.card.specs.Parts.{float_at, vec3_at, quat_at, wide_at, limit_at, norms_at, header_bits, body_bits, joint_bits, kind_for, any_to, set_at, outside_at, used_out, faults, field_faults, breaking_load_faults, header_faults, body_faults, joint_faults}
 use Rattle.card.proofs.Packed.{below}
-use Rattle.card.proofs.Cells.{Row, cell_of, any_at, fieldwise, record_fieldwise}
-use Rattle.card.proofs.Cells as cells
-use Rattle.card.proofs.Editions.{row, header_cells, header_rows, HeaderOf, joint_cells, joint_rows, JointOf, joint_numbers_lem}
+use Rattle.card.proofs.Cells.{Row, cell_of, flat, any_at, fieldwise, record_fieldwise}
+use Rattle.card.proofs.Cells as by_cell
+use Rattle.card.specs.declared.edition.Edition as named
+use Rattle.card.specs.declared.edition.Edition.TheVariants.{One, Two, Three}
+use Rattle.card.proofs.Editions.{row, header_cells, header_rows, HeaderOf, joint_cells, joint_rows, load_rows, JointOf, cells, joint_of_lem, more_is, joint_numbers_lem}
 
 abbrev pub is_set : ℕ → Bool
 is_set n = not (eqb n 0)
@@ -52,7 +54,7 @@ module _ (l : List ℕ) (counts rate zeros a b : ℕ) (first : width_of (header_
   unfolding field_faults outside_at header_bits numbers_at out_of
   header_beyond =
       record_fieldwise (beyond header_numbers) l (header_cells counts rate zeros) header_rows ∙ ap (fieldwise (beyond header_numbers) l false header_rows) first
-      ∙ ap (λ q. any_to (cells.float_at (beyond header_numbers) l (cell_of (row 1 always Bounded)) (8 * a)) 1 || any_to (cells.float_at (beyond header_numbers) l (cell_of (row 1 always NotNegative)) q) 1) second
+      ∙ ap (λ q. any_to (by_cell.float_at (beyond header_numbers) l (cell_of (row 1 always Bounded)) (8 * a)) 1 || any_to (by_cell.float_at (beyond header_numbers) l (cell_of (row 1 always NotNegative)) q) 1) second
 
   header_is : header_found l (header_bits header_numbers) a b ≡ header_faults (header counts rate zeros) header_numbers
   unfolding header_faults field_faults
@@ -148,9 +150,38 @@ joint_found l k bits floats = faults (bits || not k.fits) false floats (k.angles
 abbrev joint_kind : List ℕ → JointKind
 joint_kind ns = kind_for (at 0 ns) (flag 3 ns) (flag 4 ns) (motored ns)
 
-module _ (l : List ℕ) (cs : List Cell) (J : JointOf cs) where
+-- the breaking load behind the other floats
+module _ (l : List ℕ) (f : Faults) where
+  load_unused : (ns : List ℕ) (e : named.Edition) → fieldwise (unused ns) l f.bits (load_rows e) 984 ≡ (breaking_load_faults f l e).bits
+  unfolding breaking_load_faults field_faults set_at
+  load_unused ns One = refl
+  load_unused ns Two = refl
+  load_unused ns Three = refl
+
+  load_beyond : (ns : List ℕ) (e : named.Edition) → fieldwise (beyond ns) l f.floats (load_rows e) 984 ≡ (breaking_load_faults f l e).floats
+  unfolding breaking_load_faults field_faults outside_at out_of
+  load_beyond ns One = refl
+  load_beyond ns Two = refl
+  load_beyond ns Three = refl
+
+  load_dominance : (e : named.Edition) → (breaking_load_faults f l e).dominance ≡ f.dominance
+  unfolding breaking_load_faults field_faults
+  load_dominance One = refl
+  load_dominance Two = refl
+  load_dominance Three = refl
+
+module _ (l : List ℕ) (e : named.Edition) where
+  abbrev J : JointOf (cells e).joint
+  J = joint_of_lem e
+
   abbrev before_floats : List Cell
   before_floats = joint_cells J.numbers J.zeros
+
+  abbrev rows : List Row
+  rows = joint_rows ++ load_rows e
+
+  abbrev cs : List Cell
+  cs = (cells e).joint
 
   abbrev ns : List ℕ
   ns = numbers_at cs l 0
@@ -162,17 +193,20 @@ module _ (l : List ℕ) (cs : List Cell) (J : JointOf cs) where
   unfolding joint_bits numbers_at
   joint_first = rw J.is (or-false (is_set (at 6 (numbers_at before_floats l 0))))
 
-  joint_fieldwise : (p : Cell → ℕ → Bool) → any_cell p cs ns ≡ fieldwise p l (any_at p l before_floats 0) joint_rows 24
+  joint_fieldwise : (p : Cell → ℕ → Bool) → any_cell p cs ns ≡ fieldwise p l (any_at p l before_floats 0) rows 24
   joint_fieldwise p =
-      ap (λ ds. any_cell p ds (numbers_at ds l 0)) J.is ∙ record_fieldwise p l before_floats joint_rows ∙ ap (fieldwise p l (any_at p l before_floats 0) joint_rows) J.whole
+      ap (λ ds. any_cell p ds (numbers_at ds l 0)) (J.is ∙ ap (λ more. joint J.numbers J.zeros (flat more)) (more_is e)) ∙ record_fieldwise p l before_floats rows ∙ ap (fieldwise p l (any_at p l before_floats 0) rows) J.whole
 
-  joint_unused : unused_set cs ns ≡ (joint_fields l b (joint_kind ns)).bits
+  abbrev found : Faults
+  found = joint_fields l b (joint_kind ns)
+
+  joint_unused : unused_set cs ns ≡ (breaking_load_faults found l e).bits
   unfolding field_faults set_at joint_bits kind_for
-  joint_unused = joint_fieldwise (unused ns) ∙ ap (λ found. fieldwise (unused ns) l found joint_rows 24) joint_first
+  joint_unused = joint_fieldwise (unused ns) ∙ ap (λ first. fieldwise (unused ns) l first rows 24) joint_first ∙ load_unused l found ns e
 
-  joint_beyond : used_out cs ns ≡ (joint_fields l b (joint_kind ns)).floats
+  joint_beyond : used_out cs ns ≡ (breaking_load_faults found l e).floats
   unfolding field_faults outside_at out_of joint_bits kind_for
-  joint_beyond = joint_fieldwise (beyond ns)
+  joint_beyond = joint_fieldwise (beyond ns) ∙ load_beyond l found ns e
 
   -- what the bits before the floats are is open
   joint_others : (bits floats : Bool) → joint_found l (joint_kind ns) bits floats ≡ faults (bits || misfit ns) false floats (too_wide ns) (reversed 28 ns || reversed 30 ns) (off_axis ns)
@@ -181,13 +215,13 @@ module _ (l : List ℕ) (cs : List Cell) (J : JointOf cs) where
       joint_numbers_lem l 0 cs J (λ ms. joint_found l (joint_kind ms) bits floats ≡ faults (bits || misfit ms) false floats (too_wide ms) (reversed 28 ms || reversed 30 ms) (off_axis ms))
       (λ a0 a1 a2 a3 a4 a5 a6. refl)
 
-  joint_is : let g = joint_fields l b (joint_kind ns) in joint_found l (joint_kind ns) g.bits g.floats ≡ joint_faults cs ns
+  joint_is : let g = breaking_load_faults found l e in joint_found l (joint_kind ns) g.bits g.floats ≡ joint_faults cs ns
   unfolding joint_faults
-  joint_is = let g = joint_fields l b (joint_kind ns) in rw (joint_unused, joint_beyond) (joint_others g.bits g.floats)
+  joint_is = let g = breaking_load_faults found l e in rw (joint_unused, joint_beyond) (joint_others g.bits g.floats)
 
 -- as the calls give them
-pub joint_are : (l : List ℕ) (cs : List Cell) → JointOf cs → {b : JointBits} {k : JointKind} {f1 f2 f3 f4 f5 f6 f7 f8 f9 f10 f11 f12 : Faults} {s t u v w : Bool}
-    → b ≡ joint_bits (numbers_at cs l 0) → k ≡ kind_for b.kind b.first b.second (is_set b.motor)
+pub joint_are : (l : List ℕ) (e : named.Edition) {b : JointBits} {k : JointKind} {f1 f2 f3 f4 f5 f6 f7 f8 f9 f10 f11 f12 f13 : Faults} {s t u v w : Bool}
+    → b ≡ joint_bits (numbers_at (cells e).joint l 0) → k ≡ kind_for b.kind b.first b.second (is_set b.motor)
     → f1 ≡ field_faults (faults (is_set b.zero) false false false false false) l true (neg bound) bound 3 6
     → f2 ≡ field_faults f1 l k.bases (neg bound) bound 27 8
     → f3 ≡ field_faults f2 l k.axis (neg bound) bound 59 3
@@ -200,8 +234,9 @@ pub joint_are : (l : List ℕ) (cs : List Cell) → JointOf cs → {b : JointBit
     → f10 ≡ field_faults f9 l (is_set b.motor) (neg bound) bound 103 2
     → f11 ≡ field_faults f10 l (is_set b.motor) f0 largest 111 1
     → f12 ≡ field_faults f11 l (is_set b.motor) (neg bound) bound 115 2
+    → f13 ≡ breaking_load_faults f12 l e
     → s ≡ wide_at l 87 → t ≡ wide_at l 95 → u ≡ limit_at l 87 → v ≡ limit_at l 95 → w ≡ norms_at l k.bases k.axis
-    → faults (f12.bits || not k.fits) f12.dominance f12.floats (k.angles && (s || t)) (u || v) w ≡ joint_faults cs (numbers_at cs l 0)
+    → faults (f13.bits || not k.fits) f13.dominance f13.floats (k.angles && (s || t)) (u || v) w ≡ joint_faults (cells e).joint (numbers_at (cells e).joint l 0)
 unfolding joint_bits field_faults
-joint_are l cs J eb ek e1 e2 e3 e4 e5 e6 e7 e8 e9 e10 e11 e12 es et eu ev ew =
-    rw (e12, e11, e10, e9, e8, e7, e6, e5, e4, e3, e2, e1, es, et, eu, ev, ew, ek, eb) (joint_is l cs J)
+joint_are l e eb ek e1 e2 e3 e4 e5 e6 e7 e8 e9 e10 e11 e12 e13 es et eu ev ew =
+    rw (e13, load_dominance l _ e, e12, e11, e10, e9, e8, e7, e6, e5, e4, e3, e2, e1, es, et, eu, ev, ew, ek, eb) (joint_is l e)

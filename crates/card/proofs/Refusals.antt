@@ -2,7 +2,7 @@
 use native.Mathlib.Omega.{arith}
 use mathlib.Core.Path.{◌≡◌}
 use Rattle.card.specs.declared.refusal.Refusal.{Refusal}
-use Rattle.card.specs.declared.refusal.Refusal.TheVariants.{ShortCard, WrongEdition, WrongCounts, WrongRate, WrongLength, UnusedBits, FloatOutOfRange, LimitOrder, NotUnit, WrongBodies, StateLength, StateNumber, Stopped, Conversion, Dominance, AngleLimit}
+use Rattle.card.specs.declared.refusal.Refusal.TheVariants.{ShortCard, WrongEdition, WrongCounts, WrongRate, WrongLength, UnusedBits, FloatOutOfRange, LimitOrder, NotUnit, WrongBodies, StateLength, StateNumber, Stopped, Conversion, Dominance, AngleLimit, JointMark}
 use Rattle.card.specs.Answer.{refusal_number}
 
 pub numbered : (r : Refusal) → refusal_number r ≡ 0 → ⊥
@@ -22,3 +22,4 @@ numbered Stopped e = omega arith
 numbered Conversion e = omega arith
 numbered Dominance e = omega arith
 numbered AngleLimit e = omega arith
+numbered JointMark e = omega arith

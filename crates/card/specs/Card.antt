@@ -78,7 +78,7 @@ abbrev pub motored : List ℕ → Bool
 motored ns = not (eqb (at 5 ns) 0)
 
 -- kind 0, bodies 1 and 2, first and second limit 3 and 4, motor 5, zero; anchors 7 and 10, bases 13 and 17, axis 21, compliances 24, limits 28 and 30,
--- motor 32: target velocity, target position, cap, two model floats; what the edition has more
+-- motor 32: target velocity, target position, cap, two model floats; what the edition has more: breaking load 37
 abbrev pub joint : ℕ → ℕ → List Cell → List Cell
 joint numbers zeros more =
     bits 3 always ++ bits numbers always ++ bits numbers always ++ bits 1 always ++ bits 1 always ++ bits 2 always ++ bits zeros never
@@ -99,9 +99,13 @@ pub record Edition : Type 0 where
 abbrev pub edition : List Cell → List Cell → ℕ → ℕ → Edition
 edition h j most fastest = record { header = h; joint = j; most = most; fastest = fastest }
 
--- from 1 on, the second by document 02, point 4: header, joint, most bodies and joints, fastest rate
+-- from 1 on, the second by document 02, point 4, the third by its point 11: header, joint, most bodies and joints, fastest rate
 abbrev pub editions : List Edition
-editions = edition (header 6 10 2) (joint 5 7 []) 32 1000 ∷ edition (header 8 16 24) (joint 8 1 []) 200 4000 ∷ []
+editions =
+    edition (header 6 10 2) (joint 5 7 []) 32 1000
+    ∷ edition (header 8 16 24) (joint 8 1 []) 200 4000
+    ∷ edition (header 8 16 24) (joint 8 1 (floats 1 always Cap)) 200 4000
+    ∷ []
 
 -- one that is not listed is refused, whatever is read of it
 unfoldable pub edition_of : ℕ → Edition

@@ -1,15 +1,15 @@
 -- What the parts of the checks hand to each other, for their own contracts: the definitions that are read need none of it.
-use Rattle.std.specs.Prelude.{ℕ, ◌+◌, ◌*◌, ◌/◌, Bool, false, not, ◌||◌, ◌&&◌, List, length, eqb, ltb, Float}
+use Rattle.std.specs.Prelude.{ℕ, ◌+◌, ◌*◌, ◌/◌, Bool, true, false, not, ◌||◌, ◌&&◌, List, length, eqb, ltb, Float}
 use Rattle.std.specs.List.{list_any, range_with_len}
 use Rattle.std.specs.Float.Ieee.{neg, lt}
-use Rattle.scalar.specs.Arith.{f32, f7}
+use Rattle.scalar.specs.Arith.{f32, f0, f7, largest}
 use Rattle.scalar.specs.Scalar.{outside}
 use Rattle.vector.specs.Vector.{length_squared_of}
 use Rattle.vector.specs.Rotation.{norm_squared_of}
 use Rattle.vector.specs.declared.Vec3.{Vec3}
 use Rattle.vector.specs.declared.Quat.{Quat}
 use Rattle.card.specs.declared.edition.Edition as named
-use Rattle.card.specs.declared.edition.Edition.TheVariants.{One, Two}
+use Rattle.card.specs.declared.edition.Edition.TheVariants.{One, Two, Three}
 use Rattle.card.specs.declared.edition.EditionSizes.{EditionSizes}
 use Rattle.card.specs.declared.kinds.JointKind.{JointKind}
 use Rattle.card.specs.declared.records.HeaderBits.{HeaderBits}
@@ -23,9 +23,10 @@ use Rattle.card.specs.Checks.{any, misfit, dominant, too_wide, reversed, off_uni
 abbrev pub edition_number : named.Edition → ℕ
 edition_number One = 1
 edition_number Two = 2
+edition_number Three = 3
 
 unfoldable pub sizes_of : named.Edition → EditionSizes
-sizes_of n = let e = edition_of (edition_number n) in record { header_bytes = width_of e.header / 8; most = e.most; fastest = e.fastest }
+sizes_of n = let e = edition_of (edition_number n) in record { header_bytes = width_of e.header / 8; joint_bytes = width_of e.joint / 8; most = e.most; fastest = e.fastest }
 
 -- a card with so many bodies and joints
 abbrev pub card_with : Edition → List ℕ → ℕ → ℕ → Card
@@ -105,6 +106,12 @@ or_faults a b = faults (a.bits || b.bits) (a.dominance || b.dominance) (a.floats
 unfoldable pub field_faults : Faults → List ℕ → Bool → Float → Float → ℕ → ℕ → Faults
 field_faults f part used low high at count =
     faults (f.bits || any_to (λ n. not used && set_at part at n) count) f.dominance (f.floats || any_to (λ n. outside_at part low high at n && used) count) f.angles f.limits f.norms
+
+-- with those of the breaking load, in an edition that has it
+unfoldable pub breaking_load_faults : Faults → List ℕ → named.Edition → Faults
+breaking_load_faults f part One = f
+breaking_load_faults f part Two = f
+breaking_load_faults f part Three = field_faults f part true f0 largest 123 1
 
 -- a number that has use is out of range: what is left of check 7 once check 6 has passed
 abbrev pub used_out : List Cell → List ℕ → Bool

@@ -4,15 +4,15 @@ ghost use Rattle.card.specs.Format.{numbers_at, records_at};
 ghost use Rattle.card.specs.Card.{at, body, edition_of};
 ghost use Rattle.card.specs.Answer.{number_of};
 ghost use Rattle.card.specs.Checks.{any, off_unit, wrong_pair, first_of, record_checks, check_of};
-ghost use Rattle.card.specs.Parts.{edition_number, sizes_of, card_with, counts_fault, rate_fault, or_faults, field_faults, header_faults, body_faults, joint_faults, faults_of, wide_at, limit_at, norms_at};
+ghost use Rattle.card.specs.Parts.{edition_number, sizes_of, card_with, counts_fault, rate_fault, or_faults, field_faults, header_faults, body_faults, joint_faults, faults_of, breaking_load_faults, wide_at, limit_at, norms_at};
 
 use crate::accepted_card::Accepted;
 use crate::bits::{bits8_at, bits32_at, float_at, quat_at, vec3_at};
 use crate::edition::Edition;
 use crate::kinds::kind_of;
 use crate::layout::{
-    ANCHOR1, AXIS, BASIS1, BASIS2, BODY_BYTES, BOUNDED, Bounds, CAP, COMPLIANCES, GRAVITY,
-    INV_INERTIA, INV_MASS, JOINT_BYTES, LEAST_BYTES, LIMIT1, LIMIT2, LINEAR_VELOCITY, MOTOR,
+    ANCHOR1, AXIS, BASIS1, BASIS2, BODY_BYTES, BOUNDED, BREAKING_LOAD, Bounds, CAP, COMPLIANCES,
+    GRAVITY, INV_INERTIA, INV_MASS, LEAST_BYTES, LIMIT1, LIMIT2, LINEAR_VELOCITY, MOTOR,
     NOT_NEGATIVE, POSITION, ROTATION, SLOWEST, WARM_COEFFICIENT, WIDEST_ANGLE,
 };
 use crate::records::{BodyRecord, JointRecord, body_bits, header_bits, joint_bits};
@@ -84,6 +84,18 @@ impl Faults {
         Faults {
             bits: self.bits | set,
             ..self
+        }
+    }
+
+    // With the faults of a joint's breaking load, where the edition has it.
+    #[tactic(auto, unfolding(crate::specs::Parts::breaking_load_faults, crate::specs::Parts::sizes_of, crate::specs::Card::edition_of))]
+    fn breaking_load(self, part: &[u8], edition: Edition) -> Faults
+        requires { (sizes_of edition).joint_bytes ≤ length part.now }
+        ensures { result ≡ breaking_load_faults self part.now edition }
+    {
+        match edition {
+            Edition::One | Edition::Two => self,
+            Edition::Three => self.field(part, true, CAP, BREAKING_LOAD, 1),
         }
     }
 }
@@ -167,6 +179,7 @@ impl<'a> JointRecord<'a> {
     }
 
     fn faults(self, edition: Edition) -> Faults
+        requires { (sizes_of edition).joint_bytes ≤ length self.bytes.now }
         ensures { result ≡ joint_faults (edition_of (edition_number edition)).joint (numbers_at (edition_of (edition_number edition)).joint self.entry.bytes.now 0) }
     {
         let part = self.bytes;
@@ -191,7 +204,8 @@ impl<'a> JointRecord<'a> {
             // target velocity and position, cap, two model floats
             .field(part, motor, BOUNDED, MOTOR, 2)
             .field(part, motor, CAP, MOTOR + 8, 1)
-            .field(part, motor, BOUNDED, MOTOR + 12, 2);
+            .field(part, motor, BOUNDED, MOTOR + 12, 2)
+            .breaking_load(part, edition);
         Faults {
             bits: g.bits | !kind.fits,
             angles: kind.angles & (self.wide_fault(LIMIT1) | self.wide_fault(LIMIT2)),
@@ -217,12 +231,14 @@ fn bodies_faults(card: &[u8], at: usize, count: usize) -> Faults
 }
 
 // Of so many joints from `at` on.
+#[tactic(auto, using(crate::proofs::Editions::joint_bytes_lem))]
 fn joints_faults(card: &[u8], edition: Edition, at: usize, count: usize) -> Faults
-    requires { at + 123 * count ≤ length card.now }
+    requires { at + (sizes_of edition).joint_bytes * count ≤ length card.now }
     ensures { result ≡ faults_of (joint_faults (edition_of (edition_number edition)).joint) (records_at (edition_of (edition_number edition)).joint card.now (8 * at) count) }
 {
+    let size = edition.sizes().joint_bytes;
     let mut f = Faults::NONE;
-    for part in card[at..at + JOINT_BYTES * count].chunks_exact(JOINT_BYTES) {
+    for part in card[at..at + size * count].chunks_exact(size) {
         let record = JointRecord { bytes: part };
         f = f | record.faults(edition);
     }
@@ -252,6 +268,7 @@ fn pair_fault(card: &[u8], at: usize, bodies: usize, a: usize, b: usize) -> bool
 }
 
 // Whether one of so many joints from a place on names its bodies wrongly.
+#[tactic(auto, using(crate::proofs::Editions::joint_bytes_lem))]
 fn any_pair_fault(
     card: &[u8],
     edition: Edition,
@@ -260,11 +277,12 @@ fn any_pair_fault(
     joints_at: usize,
     joints: usize,
 ) -> bool
-    requires { (bodies_at + 94 * bodies ≤ length card.now) × (joints_at + 123 * joints ≤ length card.now) }
+    requires { (bodies_at + 94 * bodies ≤ length card.now) × (joints_at + (sizes_of edition).joint_bytes * joints ≤ length card.now) }
     ensures { result ≡ any (λ j. wrong_pair (records_at body card.now (8 * bodies_at) bodies) (at 1 j) (at 2 j)) (records_at (edition_of (edition_number edition)).joint card.now (8 * joints_at) joints) }
 {
-    card[joints_at..joints_at + JOINT_BYTES * joints]
-        .chunks_exact(JOINT_BYTES)
+    let size = edition.sizes().joint_bytes;
+    card[joints_at..joints_at + size * joints]
+        .chunks_exact(size)
         .any(|part| {
             let b = joint_bits(part, edition);
             pair_fault(card, bodies_at, bodies, b.body1, b.body2)
@@ -289,7 +307,7 @@ fn rate_fault(fastest: u32, rate: u32) -> bool
 // The checks from 6 on, of a card with so many bodies and joints.
 #[tactic(auto, using(crate::proofs::CheckRows::checks_are))]
 fn check_records(card: &[u8], edition: Edition, bodies: usize, joints: usize) -> Result<(), Refusal>
-    requires { length card.now ≡ (sizes_of edition).header_bytes + 94 * bodies + 123 * joints }
+    requires { length card.now ≡ (sizes_of edition).header_bytes + 94 * bodies + (sizes_of edition).joint_bytes * joints }
     ensures { number_of result ≡ first_of (record_checks (edition_of (edition_number edition)) (card_with (edition_of (edition_number edition)) card.now bodies joints)) }
 {
     let at = edition.sizes().header_bytes;
@@ -341,7 +359,7 @@ pub fn check(card: &[u8]) -> Result<Accepted<'_>, Refusal>
     if rate_fault(sizes.fastest, h.rate) {
         return Err(Refusal::WrongRate);
     }
-    if card.len() != sizes.header_bytes + BODY_BYTES * bodies + JOINT_BYTES * joints {
+    if card.len() != sizes.header_bytes + BODY_BYTES * bodies + sizes.joint_bytes * joints {
         return Err(Refusal::WrongLength);
     }
     check_records(card, edition, bodies, joints)?;

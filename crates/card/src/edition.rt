@@ -1,4 +1,4 @@
-// The editions, and what each has of its own: document 01, 'The card' and 'Turned back', and document 02, point 4.
+// The editions, and what each has of its own: document 01, 'The card' and 'Turned back', and document 02, points 4 and 11.
 ghost use Rattle.std.specs.Prelude.{◌≡◌, IsTrue, MatchResult};
 ghost use Rattle.card.specs.declared.refusal.Refusal.TheVariants.{WrongEdition};
 ghost use Rattle.card.specs.Format.{bits_at};
@@ -12,11 +12,13 @@ use crate::refusal::Refusal;
 pub enum Edition {
     One = 1,
     Two = 2,
+    Three = 3,
 }
 
 #[derive(Clone, Copy)]
 pub struct EditionSizes {
     pub header_bytes: usize,
+    pub joint_bytes: usize,
     // Of bodies and of joints.
     pub most: usize,
     pub fastest: u32,
@@ -32,6 +34,7 @@ impl TryFrom<u32> for Edition {
         match n {
             1 => Ok(Edition::One),
             2 => Ok(Edition::Two),
+            3 => Ok(Edition::Three),
             _ => Err(Refusal::WrongEdition),
         }
     }
@@ -58,11 +61,19 @@ impl Edition {
         match self {
             Edition::One => EditionSizes {
                 header_bytes: 12,
+                joint_bytes: 123,
                 most: 32,
                 fastest: 1000,
             },
             Edition::Two => EditionSizes {
                 header_bytes: 16,
+                joint_bytes: 123,
+                most: 200,
+                fastest: 4000,
+            },
+            Edition::Three => EditionSizes {
+                header_bytes: 16,
+                joint_bytes: 127,
                 most: 200,
                 fastest: 4000,
             },

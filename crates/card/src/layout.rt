@@ -6,8 +6,6 @@ pub const LEAST_BYTES: usize = 12;
 
 pub const BODY_BYTES: usize = 94;
 
-pub const JOINT_BYTES: usize = 123;
-
 pub const SLOWEST: u32 = 16;
 
 // From the header's end back, in every edition.
@@ -44,6 +42,9 @@ pub const LIMIT1: usize = 87;
 pub const LIMIT2: usize = 95;
 
 pub const MOTOR: usize = 103;
+
+// In the editions that have it.
+pub const BREAKING_LOAD: usize = 123;
 
 // What a float may be.
 #[derive(Clone, Copy)]

@@ -70,7 +70,7 @@ pub fn header_bits(part: &[u8], edition: Edition) -> HeaderBits
                 zero: b / 1 % 4,
             }
         }
-        Edition::Two => HeaderBits {
+        Edition::Two | Edition::Three => HeaderBits {
             bodies: bits8_at(part, 1) as usize,
             joints: bits8_at(part, 2) as usize,
             rate: bits16_at(part, 3),
@@ -109,7 +109,7 @@ pub fn joint_bits(part: &[u8], edition: Edition) -> JointBits
             motor: b / 0x80 % 4,
             zero: b / 1 % 0x80,
         },
-        Edition::Two => JointBits {
+        Edition::Two | Edition::Three => JointBits {
             kind: b / 0x0020_0000 % 8,
             body1: (b / 0x2000 % 0x100) as usize,
             body2: (b / 0x20 % 0x100) as usize,

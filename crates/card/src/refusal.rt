@@ -23,6 +23,7 @@ pub enum Refusal {
     Conversion = 16,
     Dominance = 17,
     AngleLimit = 19,
+    JointMark = 21,
 }
 
 impl Refusal {

@@ -31,7 +31,7 @@ module _ {from to : ℕ} (a : Row from) (b : Row to) (card : List ℕ) (is : bit
     unfolding length_in header_bits
     new_length =
         let size : 8 * b.bytes / 8 ≡ b.bytes = omega arith in
-        rw (eh, a.listed, b.listed, b.whole_header, size, card_is a card is) (sym (taken_length a card is z b))
+        rw (eh, a.listed, b.listed, b.whole_header, b.whole_joint, size, card_is a card is) (sym (taken_length a card is z b))
 
     large_is : too_large_in to h ≡ too_large (edition_of to) (card_of card)
     unfolding too_large_in header_bits

@@ -82,4 +82,4 @@ converts {from} {to} a b card out small e =
     }
 
 pub both_ways : Converts
-both_ways = record { over = converts (row One) (row Two); back = converts (row Two) (row One) }
+both_ways = let a = row One (omega arith) in let b = row Two (omega arith) in record { over = converts a b; back = converts b a }

@@ -9,7 +9,7 @@ use lib.Dec.{eqb, ltb}
 use Rattle.card.specs.Format.{width_of}
 use Rattle.card.specs.Card.{header, joint, Edition, edition, editions, edition_of}
 use Rattle.card.specs.declared.edition.Edition as named
-use Rattle.card.specs.declared.edition.Edition.TheVariants.{One, Two}
+use Rattle.card.specs.declared.edition.Edition.TheVariants.{One, Two, Three}
 use Rattle.card.specs.Parts.{edition_number, sizes_of}
 
 pub record Row (n : ℕ) : Type 0 where
@@ -60,14 +60,15 @@ row_of counts rate zeros numbers spare most fastest bytes listed known whole roo
       numbered = room.4;
     }
 
-pub row : (e : named.Edition) → Row (edition_number e)
+pub row : (e : named.Edition) → edition_number e ≤ 2 → Row (edition_number e)
 unfolding edition_of
-row One = row_of 6 10 2 5 7 32 1000 12 refl refl (refl, refl) (omega arith)
-row Two = row_of 8 16 24 8 1 200 4000 16 refl refl (refl, refl) (omega arith)
+row One h = row_of 6 10 2 5 7 32 1000 12 refl refl (refl, refl) (omega arith)
+row Two h = row_of 8 16 24 8 1 200 4000 16 refl refl (refl, refl) (omega arith)
+row Three h = absurd (omega (arith, h))
 
-pub size_is : (e : named.Edition) → (sizes_of e).header_bytes ≡ (row e).bytes
+pub size_is : (e : named.Edition) (h : edition_number e ≤ 2) → (sizes_of e).header_bytes ≡ (row e h).bytes
 unfolding sizes_of
-size_is e = rw ((row e).listed, (row e).whole_header) (omega arith)
+size_is e h = rw ((row e h).listed, (row e h).whole_header) (omega arith)
 
 module _ {n : ℕ} (r : Row n) where
   pub width_is : width_of (edition_of n).header ≡ 8 * r.bytes

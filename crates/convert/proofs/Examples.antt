@@ -12,4 +12,4 @@ use Rattle.convert.specs.Examples.{Examples}
 
 pub examples : Examples
 unfolding of_bits of_fields neg add mul sum round units odd size span climb le lt eq dot_of length_squared_of concat bits_at numbers_at records_at any_cell out_of outside kind_at edition_of card_of any off_unit packed bytes_of card_bytes convert_of
-examples = record { over = refl; back = refl; short = refl; fast = refl; already = refl; slow = refl }
+examples = record { over = refl; back = refl; short = refl; fast = refl; already = refl; third = refl; slow = refl }

@@ -19,7 +19,7 @@ use Rattle.convert.proofs.Editions.{row, size_is}
 use Rattle.convert.proofs.Numbers.{card_is, taken_length}
 use Rattle.convert.proofs.Answers.{own_passed}
 
-module _ (e : named.Edition) (t : named.Edition) (card : List ℕ) where
+module _ (e : named.Edition) (t : named.Edition) (f : edition_number e ≤ 2) (g : edition_number t ≤ 2) (card : List ℕ) where
   abbrev from : ℕ
   from = edition_number e
 
@@ -28,10 +28,10 @@ module _ (e : named.Edition) (t : named.Edition) (card : List ℕ) where
 
   new_size : bits_at card 0 8 ≡ from → check_of card ≡ 0 → length (converted to card) ≤ 43416
   new_size is z =
-      let a = row e in
-      let b = row t in
+      let a = row e f in
+      let b = row t g in
       let few = at_most_200 card z in
-      rw (b.listed, card_is a card is, taken_length a card is z b) (omega (arith, (rw (card_is a card is) at few), size_is t, header_bytes_lem t))
+      rw (b.listed, card_is a card is, taken_length a card is z b) (omega (arith, (rw (card_is a card is) at few), size_is t g, header_bytes_lem t))
 
   module _ (out : List ℕ) where
     small : (b : Bool) → eqb (first_of (convert_checks from to card out)) 0 ≡ b → (convert_of from to card out).size ≤ 43416

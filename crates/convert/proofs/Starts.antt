@@ -12,7 +12,7 @@ use Rattle.std.specs.Int.{bytes_high_first}
 use Rattle.card.specs.Format.{bits_at, Cell, width_of, numbers_at}
 use Rattle.card.specs.Card.{edition_of}
 use Rattle.card.specs.declared.edition.Edition as named
-use Rattle.card.specs.declared.edition.Edition.TheVariants.{One, Two}
+use Rattle.card.specs.declared.edition.Edition.TheVariants.{One, Two, Three}
 use Rattle.card.specs.Parts.{header_bits, joint_bits}
 use Rattle.card.specs.declared.records.HeaderBits.{HeaderBits}
 use Rattle.card.specs.declared.records.JointBits.{JointBits}
@@ -105,11 +105,13 @@ pub small_header : (l : List ℕ) (e : named.Edition) → SmallHeader (header_bi
 unfolding edition_of numbers_at header_bits
 small_header l One = record { bodies = omega (arith, below l 8 6); joints = omega (arith, below l 14 6); rate = omega (arith, below l 20 10); zero = omega (arith, below l 30 2) }
 small_header l Two = record { bodies = below l 8 8; joints = below l 16 8; rate = below l 24 16; zero = below l 40 24 }
+small_header l Three = record { bodies = below l 8 8; joints = below l 16 8; rate = below l 24 16; zero = below l 40 24 }
 
 pub small_joint : (l : List ℕ) (e : named.Edition) → SmallJoint (joint_bits (numbers_at (cells e).joint l 0))
 unfolding edition_of numbers_at joint_bits
 small_joint l One = record { kind = below l 0 3; body1 = omega (arith, below l 3 5); body2 = omega (arith, below l 8 5); motor = below l 15 2; zero = below l 17 7 }
 small_joint l Two = record { kind = below l 0 3; body1 = below l 3 8; body2 = below l 11 8; motor = below l 21 2; zero = omega (arith, below l 23 1) }
+small_joint l Three = record { kind = below l 0 3; body1 = below l 3 8; body2 = below l 11 8; motor = below l 21 2; zero = omega (arith, below l 23 1) }
 
 -- ---- as they are written
 

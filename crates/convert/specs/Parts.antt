@@ -45,7 +45,7 @@ rows_bytes from to card p bodies joints =
 -- ---- a card with such a header in edition n
 
 unfoldable pub length_in : ℕ → HeaderBits → ℕ
-length_in n h = width_of (edition_of n).header / 8 + 94 * h.bodies + 123 * h.joints
+length_in n h = let e = edition_of n in width_of e.header / 8 + 94 * h.bodies + width_of e.joint / 8 * h.joints
 
 unfoldable pub too_large_in : ℕ → HeaderBits → Bool
 too_large_in n h = let e = edition_of n in ltb e.most h.bodies || ltb e.most h.joints || ltb e.fastest h.rate

@@ -13,18 +13,18 @@ use card::accepted_card::Accepted;
 use card::bits::bits8_at;
 use card::checks::check;
 use card::edition::Edition;
-use card::layout::{BODY_BYTES, JOINT_BYTES, LEAST_BYTES};
+use card::layout::{BODY_BYTES, LEAST_BYTES};
 use card::records::{HeaderBits, header_bits};
 use card::refusal::Refusal;
 
 // How many bytes a card with such a header has in an edition.
-#[tactic(auto, using(card::proofs::Editions::header_bytes_lem), unfolding(crate::specs::Parts::length_in, card::specs::Parts::sizes_of))]
+#[tactic(auto, using(card::proofs::Editions::header_bytes_lem, card::proofs::Editions::joints_bytes), unfolding(crate::specs::Parts::length_in, card::specs::Parts::sizes_of))]
 fn length_in(h: HeaderBits, edition: Edition) -> usize
     requires { SmallHeader h }
     ensures { result ≡ length_in (edition_number edition) h }
 {
     let s = edition.sizes();
-    s.header_bytes + BODY_BYTES * h.bodies + JOINT_BYTES * h.joints
+    s.header_bytes + BODY_BYTES * h.bodies + s.joint_bytes * h.joints
 }
 
 // More bodies or joints than an edition has, or a faster rate.

@@ -9,8 +9,11 @@ ghost use Rattle.convert.specs.Convert.{record_bytes, card_bytes, with_edition};
 ghost use Rattle.convert.specs.Parts.{SmallHeader, SmallJoint, header_start, joint_start, rows_bytes};
 
 use card::edition::Edition;
-use card::layout::{BODY_BYTES, GRAVITY, JOINT_BYTES};
+use card::layout::{BODY_BYTES, GRAVITY};
 use card::records::{HeaderBits, JointBits, header_bits, joint_bits};
+
+// Of both editions that a card is taken from and to.
+const JOINT_BYTES: usize = 123;
 
 // The bits before a header's floats. By edition and not by a table of places, which would be no shorter.
 fn write_header_bits(h: HeaderBits, edition: Edition, out: &mut [u8])
@@ -26,8 +29,8 @@ fn write_header_bits(h: HeaderBits, edition: Edition, out: &mut [u8])
                 + h.zero;
             out[..4].copy_from_slice(&b.to_be_bytes());
         }
-        Edition::Two => {
-            let b = 0x0200_0000_0000_0000
+        Edition::Two | Edition::Three => {
+            let b = edition.number() as u64 * 0x0100_0000_0000_0000
                 + h.bodies as u64 * 0x0001_0000_0000_0000
                 + h.joints as u64 * 0x0100_0000_0000
                 + h.rate as u64 * 0x0100_0000
@@ -53,7 +56,7 @@ fn joint_bits_in(j: JointBits, edition: Edition) -> u32
             + second * 0x0200
             + j.motor * 0x80
             + j.zero,
-        Edition::Two => j.kind * 0x0020_0000
+        Edition::Two | Edition::Three => j.kind * 0x0020_0000
             + j.body1 as u32 * 0x2000
             + j.body2 as u32 * 0x20
             + first * 0x10
@@ -63,11 +66,12 @@ fn joint_bits_in(j: JointBits, edition: Edition) -> u32
     }
 }
 
-// From which edition a card is read, and in which it is written.
+// From which edition a card is read, and in which it is written: editions 1 and 2, whose joints have as many bytes.
 #[derive(Clone, Copy)]
 pub struct Way {
     pub from: Edition,
     pub to: Edition,
+    pub ghost convertible: { (edition_number from ≤ 2) × (edition_number to ≤ 2) },
 }
 
 impl Way {

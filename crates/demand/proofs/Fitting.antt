@@ -23,7 +23,7 @@ use Rattle.tick.specs.Body.{integrated}
 use Rattle.numbers.proofs.Loops.{after_all}
 use Rattle.loader.specs.Linkage.{Linkage}
 use Rattle.state.specs.State.{body_at}
-use Rattle.tick.specs.Tick.{Solved, body, joint, put, each_moving, pair, put_pair, setting, steps, found, loaded, warm_start_next, warm_started, pre_solve_of, solve_next, solve_pass, solved_to}
+use Rattle.tick.specs.Tick.{Solved, body, joint, put, each_moving, pair, put_pair, setting, skipped, steps, found, loaded, warm_start_next, warm_started, pre_solve_of, solve_next, solve_pass, solved_to}
 
 abbrev Fitting : SolverBody → Type 0
 Fitting b = Fits3 b.delta_position
@@ -93,7 +93,7 @@ module _ (K : Linkage) (s : List Float) where
   unfolding warm_started
   warm_start_fit =
       after_all (warm_start_next K s) (loaded K s) FitAll (length K.joints) load_fit
-      (λ j l m f. put_fit j _ l f (warm_fit (setting K true j) _ _ (steps K s j) (pair K j l) (pair_fit j l f)))
+      (λ j l m f. either FitAll (skipped K s j) l _ f (put_fit j _ l f (warm_fit (setting K true j) _ _ (steps K s j) (pair K j l) (pair_fit j l f))))
 
   pre_solve_fit : FitAll (pre_solve_of K s)
   unfolding pre_solve_of
@@ -103,7 +103,7 @@ module _ (K : Linkage) (s : List Float) where
   unfolding solve_next
   next_fit j σ f =
       let l = σ.bodies in
-      put_fit j _ l f (run_fit (setting K true j) (steps K s j) (found K s j σ) (pair_fit j l f))
+      either (λ (τ : Solved). FitAll τ.bodies) (skipped K s j) σ _ f (put_fit j _ l f (run_fit (setting K true j) (steps K s j) (found K s j σ) (pair_fit j l f)))
 
   -- what joint j finds
   pub found_fit : (j : ℕ) → FitAll (solved_to K s j).bodies

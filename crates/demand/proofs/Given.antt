@@ -4,8 +4,8 @@ use native.Mathlib.Nat.{lt_of_lt_of_le}
 use native.Mathlib.Omega.{arith}
 use mathlib.Core.Path.{◌≡◌}
 use mathlib.Core.Bool.{Bool, true, false}
-use mathlib.Core.List.{List, [], ◌∷◌, map}
-use lib.ListN.{length, get_or, drop, length-map, get_or-map}
+use mathlib.Core.List.{List, [], ◌∷◌, ◌++◌, map}
+use lib.ListN.{length, get_or, take, drop, length-map, get_or-map}
 use lib.Dec.{T}
 use lib.Ieee.{Float, binary32, of_bits, of_fields, fits, le}
 use lib.Ieee.Bits.{of_bits-fits}
@@ -28,7 +28,7 @@ use Rattle.card.specs.Card.{at, flag, body, joint, edition_at, Card, card_of}
 use Rattle.card.specs.Checks.{check_of}
 use Rattle.card.specs.Accepted.{Real, Ranged, AcceptedCard}
 use Rattle.card.proofs.Cut.{records_length, record_at}
-use Rattle.card.proofs.Cells.{flat}
+use Rattle.card.proofs.Cells.{Row, flat}
 use Rattle.card.proofs.Editions.{joint_rows, JointOf, joint_of_lem, joint_numbers_lem}
 use Rattle.card.proofs.Accepted.{accepted, edition}
 use Rattle.loader.specs.Linkage.{Linkage, angular_motor_in, linear_motor_in, fixed_in, revolute_in, prismatic_in, spherical_in, distance_in, kind_in, body_in, body_of, joint_of, linkage_of}
@@ -95,14 +95,14 @@ soft : {x : Float} → Real f0 x → Soft x
 soft r = (r.held.0, r.above)
 
 -- the floats' cells are known, so each float computes to its bits
-module _ (numbers zeros : ℕ) (l : List ℕ) (p kind body1 body2 first second motor rest : ℕ) where
+module _ (numbers zeros : ℕ) (more : List Row) (l : List ℕ) (p kind body1 body2 first second motor rest : ℕ) where
   abbrev ns : List ℕ
-  ns = kind ∷ body1 ∷ body2 ∷ first ∷ second ∷ motor ∷ rest ∷ numbers_at (flat joint_rows) l (p + 24)
+  ns = kind ∷ body1 ∷ body2 ∷ first ∷ second ∷ motor ∷ rest ∷ numbers_at (flat (joint_rows ++ more)) l (p + 24)
 
   abbrev fs : List Float
-  fs = map f32 (drop 7 ns)
+  fs = map f32 (take 30 (drop 7 ns))
 
-  by_kind : Ranged (joint numbers zeros []) ns → (k : ℕ)
+  by_kind : Ranged (joint numbers zeros (flat more)) ns → (k : ℕ)
       → Compliant (get_or (Fixed (fixed_in fs) ∷ Revolute (revolute_in ns fs) ∷ Prismatic (prismatic_in ns fs) ∷ Spherical (spherical_in ns fs) ∷ []) k (Distance (distance_in fs)))
   unfolding fixed_in revolute_in prismatic_in spherical_in distance_in angular_motor_in linear_motor_in numbers_at
   by_kind r zero = (soft (r 24), soft (r 25))
@@ -115,7 +115,7 @@ joint_compliant : (cs : List Cell) → JointOf cs → (l : List ℕ) (p : ℕ) �
 unfolding kind_in
 joint_compliant cs J l p =
     joint_numbers_lem l p cs J (λ ns. Ranged cs ns → Compliant (joint_of ns).joint)
-    (λ kind body1 body2 first second motor rest r. by_kind J.numbers J.zeros l p kind body1 body2 first second motor rest (rw J.is at r) kind)
+    (λ kind body1 body2 first second motor rest r. by_kind J.numbers J.zeros J.more l p kind body1 body2 first second motor rest (rw J.is at r) kind)
 
 -- ---- the card
 

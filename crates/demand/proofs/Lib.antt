@@ -1,8 +1,12 @@
 pub mod Checks
+pub mod Calls
 pub mod Calm
 pub mod Anchored
 pub mod Fitting
 pub mod Given
 pub mod Ticking
 pub mod Demand
+pub mod Same
+pub mod Twins
+pub mod Breaks
 pub mod Sample

@@ -1,15 +1,15 @@
 -- Each stage and push of a tick that is not refused is sound.
+use Rattle.std.specs.Prelude.{if◌then◌else◌}
 use Prim.Native.Nat.{ℕ, suc, ◌<◌}
-use mathlib.Core.Path.{◌≡◌, refl, sym, subst}
-use mathlib.Core.Bool.{true, false, not}
-use mathlib.Core.List.{List, map}
-use lib.ListN.{length, length-map}
+use mathlib.Core.Path.{◌≡◌, refl, sym, ◌∙◌, subst}
+use mathlib.Core.Bool.{Bool, true, false, not}
+use mathlib.Core.List.{List, [], map}
+use lib.ListN.{length}
 use lib.Dec.{T}
 use lib.Ieee.{Float}
 use lib.Ieee.Fits.{and_l, and_r}
 use borrow.Author.Tests.{not-false}
-use Rattle.xpbd_joints.specs.Steps.{no_totals}
-use Rattle.xpbd_joints.specs.Steps.{Run, events}
+use Rattle.xpbd_joints.specs.Steps.{no_totals, Run, events}
 use Rattle.std.specs.List.{AllByRecursion}
 use Rattle.stages.proofs.Sound.{EventSound, steps_sound}
 use Rattle.card.specs.Card.{card_of}
@@ -17,10 +17,11 @@ use Rattle.card.proofs.Bools.{or_left}
 use Rattle.numbers.specs.Lists.{all, after}
 use Rattle.numbers.proofs.Loops.{after_back}
 use Rattle.scalar.specs.Scalar.{is_finite}
-use Rattle.loader.specs.Linkage.{Linkage, joint_of, linkage_of}
+use Rattle.loader.specs.Linkage.{Linkage, linkage_of}
 use Rattle.state.specs.State.{bad_numbers}
-use Rattle.tick.specs.Tick.{Solved, body, joint, put_pair, turned_linkage, setting, rigid, steps, pre_solve_of, found, solved_by, looked, solve_next, solve_pass, solved_to, solved, events_at, new_state, stopped}
+use Rattle.tick.specs.Tick.{Solved, body, joint, put_pair, turned_linkage, setting, rigid, skipped, steps, pre_solve_of, found, solved_by, looked, solve_next, solve_pass, solved_to, solved, events_at, new_state, stopped}
 use Rattle.tick.specs.Run.{tick_of}
+use Rattle.tick.proofs.Turning.{card_joints}
 use Rattle.demand.proofs.Checks.{tick_passed}
 use Rattle.demand.proofs.Calm.{solve_calm}
 use Rattle.demand.proofs.Fitting.{pair_fit, found_fit}
@@ -31,20 +32,30 @@ module _ (K : Linkage) (s : List Float) where
   abbrev solve_at : ℕ → Run
   solve_at j = solved_by K s true j (solved_to K s j)
 
-  pub traces : (j : ℕ) → (events_at K s j ≡ events (setting K true j) (steps K s j) (found K s j (solved_to K s j))) × ((solved_to K s (suc j)).bodies ≡ put_pair K j (solve_at j).bodies (solved_to K s j).bodies)
+  pub traces : (j : ℕ)
+      → (events_at K s j ≡ (if skipped K s j then [] else events (setting K true j) (steps K s j) (found K s j (solved_to K s j))))
+      × ((solved_to K s (suc j)).bodies ≡ (if skipped K s j then (solved_to K s j).bodies else put_pair K j (solve_at j).bodies (solved_to K s j).bodies))
   unfolding events_at solve_pass after solve_next
-  traces j = (refl, refl)
+  traces j = (refl, by (skipped K s j) (solved_to K s j) _)
+    where
+      by : (b : Bool) (σ τ : Solved) → (if b then σ else τ).bodies ≡ (if b then σ.bodies else τ.bodies)
+      by true σ τ = refl
+      by false σ τ = refl
 
   -- ---- finite at the end: finite after each joint
 
   abbrev Live : Solved → Type 0
   Live σ = T σ.finite
 
-  next_live : (j : ℕ) (σ : Solved) → Live (solve_next K s true j σ) → Live σ × T (all is_finite (looked K s j (solved_by K s true j σ)))
+  next_live : (j : ℕ) (σ : Solved) → Live (solve_next K s true j σ) → Live σ × (skipped K s j ≡ false → T (all is_finite (looked K s j (solved_by K s true j σ))))
   unfolding solve_next
-  next_live j σ k = (and_l σ.finite _ k, and_r σ.finite _ k)
+  next_live j σ k = by (skipped K s j) refl
+    where
+      by : (b : Bool) → skipped K s j ≡ b → Live σ × (skipped K s j ≡ false → T (all is_finite (looked K s j (solved_by K s true j σ))))
+      by true q = (rw q at k, λ e. absurd (subst T (sym q ∙ e) tt))
+      by false q = let m = rw q at k in (and_l σ.finite _ m, λ _. and_r σ.finite _ m)
 
-  joint_finite : (j : ℕ) → j < length K.joints → Live (solved K s) → T (all is_finite (looked K s j (solve_at j)))
+  joint_finite : (j : ℕ) → j < length K.joints → Live (solved K s) → skipped K s j ≡ false → T (all is_finite (looked K s j (solve_at j)))
   unfolding solve_pass after
   joint_finite j l k =
       let first : Solved = record { bodies = pre_solve_of K s; totals = map (λ i. no_totals) K.joints; finite = true } in
@@ -58,12 +69,22 @@ module _ (K : Linkage) (s : List Float) where
 
 -- ---- the tick
 
-pub tick_sound : (card : List ℕ) (s : List Float) → (tick_of card s).number ≡ 0 → (j : ℕ) → j < length (card_of card).joints → AllByRecursion EventSound (events_at (turned_linkage (linkage_of (card_of card)) s) s j)
-unfolding events_at linkage_of turned_linkage
-tick_sound card s e j l =
-    let K = turned_linkage (linkage_of (card_of card)) s in
-    let t = tick_passed card s e in
-    let k = joint K j in
-    let n : j < length K.joints = rw (length-map (card_of card).joints joint_of) l in
-    steps_sound (setting K true j) (setting_ok card t.0 s j l) (steps K s j) (steps_ok card t.0 s j l) (found K s j (solved_to K s j)) (pair_fit K s j (solved_to K s j).bodies (found_fit K s j))
-    (solve_calm k.joint (rigid K s k.body1) (rigid K s k.body2) (body K k.body1).inertia (body K k.body2).inertia (solve_at K s j) (joint_finite K s j n (not_stopped K s t.1)))
+module _ (card : List ℕ) (s : List Float) (e : (tick_of card s).number ≡ 0) (j : ℕ) (l : j < length (card_of card).joints) where
+  abbrev L : Linkage
+  L = turned_linkage (linkage_of (card_of card)) s
+
+  solve_sound : skipped L s j ≡ false → AllByRecursion EventSound (events (setting L true j) (steps L s j) (found L s j (solved_to L s j)))
+  solve_sound whole =
+      let t = tick_passed card s e in
+      let k = joint L j in
+      let n : j < length L.joints = rw (card_joints (card_of card) s) l in
+      steps_sound (setting L true j) (setting_ok card t.0 s j l) (steps L s j) (steps_ok card t.0 s j l) (found L s j (solved_to L s j)) (pair_fit L s j (solved_to L s j).bodies (found_fit L s j))
+      (solve_calm k.joint (rigid L s k.body1) (rigid L s k.body2) (body L k.body1).inertia (body L k.body2).inertia (solve_at L s j) (joint_finite L s j n (not_stopped L s t.1) whole))
+
+  pub tick_sound : AllByRecursion EventSound (events_at L s j)
+  unfolding events_at
+  tick_sound = by (skipped L s j) refl
+    where
+      by : (b : Bool) → skipped L s j ≡ b → AllByRecursion EventSound (if b then [] else events (setting L true j) (steps L s j) (found L s j (solved_to L s j)))
+      by true q = tt
+      by false q = solve_sound q

@@ -1,5 +1,5 @@
 -- Demand 3 over whole ticks and lists of calls: document 01, 'What demand 3 speaks of'.
-use Rattle.std.specs.Prelude.{ℕ, suc, ◌*◌, ◌<◌, ◌≡◌, true, ◌⊎◌, length, get_or, take, drop, T, Float}
+use Rattle.std.specs.Prelude.{ℕ, suc, ◌*◌, ◌<◌, ◌≡◌, true, ◌⊎◌, length, get_or, take, drop, T, Float, if◌then◌else◌}
 use mathlib.Core.List.{List, [], ◌∷◌, Memᴰ}
 use Rattle.std.specs.Float.Ieee.{le}
 use Rattle.xpbd_joints.specs.Stage.{Stage, entry_of}
@@ -9,7 +9,7 @@ use Rattle.card.specs.Card.{flag, Card, card_of}
 use Rattle.card.specs.Checks.{check_of}
 use Rattle.loader.specs.Linkage.{Linkage, start_body, linkage_of}
 use Rattle.state.specs.State.{body_numbers, numbers_of, start_state, start_of}
-use Rattle.tick.specs.Tick.{setting, put_pair, turned_linkage, steps, found, solved_to, events_at}
+use Rattle.tick.specs.Tick.{setting, put_pair, turned_linkage, skipped, steps, found, solved_to, events_at}
 use Rattle.tick.specs.Run as calls
 
 -- ---- stages and motors
@@ -53,12 +53,13 @@ AnchoredKept c s =
 -- ---- the demand
 
 pub record DemandThree : Type 0 where
-  -- joint j's events are those of the run by which the tick's solve goes on at joint j
+  -- joint j's events are those of the run by which the tick's solve goes on at joint j; a joint that is skipped has none, and leaves the bodies as they are
   pub traced :
       (K : Linkage) (s : List Float) (j : ℕ)
       → let r = found K s j (solved_to K s j) in
-      (events_at K s j ≡ events (setting K true j) (steps K s j) r)
-      × ((solved_to K s (suc j)).bodies ≡ put_pair K j (run (setting K true j) (steps K s j) r).bodies (solved_to K s j).bodies)
+      let bodies = (solved_to K s j).bodies in
+      (events_at K s j ≡ (if skipped K s j then [] else events (setting K true j) (steps K s j) r))
+      × ((solved_to K s (suc j)).bodies ≡ (if skipped K s j then bodies else put_pair K j (run (setting K true j) (steps K s j) r).bodies bodies))
   -- each stage's multiplier is exactly zero where w ≤ 2^-23, else between zero and -c / w
   pub stages : (s : Stage) → EventOfTick (a_stage s) → Bounded s
   -- each motor's multiplier is under its cap

@@ -18,7 +18,7 @@ use std::io;
 // Leaves the start state in so many of the room's first numbers.
 #[tactic(auto, using(state::proofs::Few::few))]
 fn started(card: &[u8], room: &mut [f32; LARGEST]) -> Result<CardSizes, Refusal>
-    ensures { IfOk result (λ s. (s.bodies ≤ 255) × (body_numbers * s.bodies ≤ s.state) × (s.state ≤ 6375)) }
+    ensures { IfOk result (λ s. (s.bodies ≤ 255) × (body_numbers * s.bodies ≤ s.state) × (s.state ≤ 6630)) }
 {
     let sizes = sizes(card)?;
     start(card, &mut room[..sizes.state])?;

@@ -1,5 +1,6 @@
 -- A card that no check refuses: its header, and where its bodies and joints stand.
 use Prim.Native.Nat.{ℕ, ◌+◌, ◌*◌, ◌-◌, ◌≤◌, ◌<◌}
+use native.Mathlib.Nat.{mul_assoc}
 use native.Mathlib.Omega.{arith}
 use mathlib.Core.Path.{◌≡◌, refl}
 use mathlib.Core.List.{List, []}
@@ -49,10 +50,11 @@ module _ (card : List ℕ) (z : check_of card ≡ 0) (n : named.Edition) (en : e
   place : 8 * bytes ≡ width_of (cells n).header
   place = header_width n
 
-  pub enough : bytes + 94 * at 1 numbers + 123 * at 2 numbers ≤ length card
+  pub enough : bytes + 94 * at 1 numbers + (sizes_of n).joint_bytes * at 2 numbers ≤ length card
   enough =
-      let long : width_of (cells n).header + 752 * at 1 numbers + 984 * at 2 numbers ≤ 8 * length card = rw (is, ← en, joint_width n) at (accepted card z).enough in
-      omega (arith, long, place)
+      let size = (sizes_of n).joint_bytes in
+      let long : width_of (cells n).header + 752 * at 1 numbers + 8 * size * at 2 numbers ≤ 8 * length card = rw (is, ← en, joint_width n) at (accepted card z).enough in
+      omega (arith, long, place, mul_assoc 8 size (at 2 numbers))
 
   pub header_fits : (sizes_of n).header_bytes ≤ length card
   header_fits = omega (arith, enough)
@@ -71,8 +73,11 @@ module _ (card : List ℕ) (z : check_of card ≡ 0) (n : named.Edition) (en : e
     unfolding header_of
     count = rw (e, is) (refl, refl)
 
-    pub fits : (sizes_of n).header_bytes + 94 * h.bodies + 123 * h.joints ≤ length card
-    fits = omega (arith, enough, count.0, count.1)
+    pub fits : (sizes_of n).header_bytes + 94 * h.bodies + (sizes_of n).joint_bytes * h.joints ≤ length card
+    fits = rw (count.0, count.1) enough
+
+    pub bodies_fit : (sizes_of n).header_bytes + 94 * h.bodies ≤ length card
+    bodies_fit = omega (arith, fits)
 
     pub bodies_are : (card_of card).bodies ≡ records_at body card (8 * bytes) h.bodies
     bodies_are = rw (count.0, is, place) refl

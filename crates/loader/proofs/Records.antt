@@ -27,10 +27,10 @@ use Rattle.card.proofs.Cut.{records_length, record_at}
 use Rattle.card.proofs.Editions.{JointOf, joint_numbers_lem}
 use Rattle.loader.specs.Parts.{joint_floats}
 
-pub joint_floats_lem : (cs : List Cell) → JointOf cs → (bytes : List ℕ) → joint_floats bytes ≡ map f32 (drop 7 (numbers_at cs bytes 0))
+pub joint_floats_lem : (cs : List Cell) → JointOf cs → (bytes : List ℕ) → joint_floats bytes ≡ map f32 (take 30 (drop 7 (numbers_at cs bytes 0)))
 unfolding each float_at numbers_at
 joint_floats_lem cs J bytes =
-    joint_numbers_lem bytes 0 cs J (λ ns. joint_floats bytes ≡ map f32 (drop 7 ns)) (λ kind body1 body2 first second motor zero. refl)
+    joint_numbers_lem bytes 0 cs J (λ ns. joint_floats bytes ≡ map f32 (take 30 (drop 7 ns))) (λ kind body1 body2 first second motor zero. refl)
 
 module _ {A : Type 0} (cs : List Cell) (g : List ℕ → A) (l : List ℕ) (p : ℕ) where
   abbrev pub record_of : ℕ → A
@@ -63,7 +63,7 @@ row cs l at count n whole some fits size rest e source zero is =
 
 module _ {cs : List Cell} {l : List ℕ} {at count n : ℕ} {i t : Items} (row : Row cs l at count n i t) (xs : List (ℕ × Bor (List ℕ))) (u : Items) (by : Yields (enumerate_steps chunks_exact_steps) i xs t) {r : Option (ℕ × Bor (List ℕ))} where
   module _ {x : ℕ × Bor (List ℕ)} (is : r ≡ Some x) (step : enumerate_steps chunks_exact_steps t r u) where
-    pub row_next : Row cs l at count n i u × (x.0 ≡ length xs) × (length xs < count) × (numbers_at cs x.1.now 0 ≡ numbers_at cs l (8 * at + length xs * width_of cs))
+    pub row_next : Row cs l at count n i u × (x.0 ≡ length xs) × (length xs < count) × (numbers_at cs x.1.now 0 ≡ numbers_at cs l (8 * at + length xs * width_of cs)) × (length x.1.now ≡ n)
     row_next =
         let rs = records_at cs l (8 * at) count in
         let turn = YieldsList-turn row.items xs t by r u x is step in
@@ -76,6 +76,7 @@ module _ {cs : List Cell} {l : List ℕ} {at count n : ℕ} {i t : Items} (row :
           ap (λ q. q.0) here ∙ zero-add (length xs),
           within,
           ap (λ q. q.1) here ∙ get_or_default rs (length xs) d.1 [] inside ∙ record_at cs l (8 * at) count (length xs) within,
+          next.0.1.1 ∙ row.size,
         )
 
     -- a slice whose places are filled with them

@@ -3,6 +3,7 @@ use Rattle.std.specs.Prelude.{ℕ, ◌+◌, Bool, Option, None, Some, List, [], 
 use Rattle.std.specs.Float.{binary32}
 use Rattle.std.specs.Float.Ieee.{of_int}
 use Rattle.scalar.specs.Arith.{◌⊘◌, f32, f1}
+use Rattle.scalar.specs.Scalar.{abs_of}
 use Rattle.vector.specs.declared.SymmetricTensor.{SymmetricTensor}
 use Rattle.joints.specs.declared.JointFrame.{JointFrame}
 use Rattle.joints.specs.declared.AngleLimit.{AngleLimit}
@@ -119,17 +120,18 @@ module _ (words : List ℕ) (floats : List Float) where
   unfoldable pub kind_in : Joint
   kind_in = get_or (Fixed (fixed_in floats) ∷ Revolute revolute_in ∷ Prismatic prismatic_in ∷ Spherical spherical_in ∷ []) (at 0 words) (Distance (distance_in floats))
 
-  abbrev pub joint_in : LinkJoint
-  joint_in = record { body1 = at 1 words; body2 = at 2 words; joint = kind_in }
-
 -- ---- by the numbers of a record, whose places Card.antt gives
 
 module _ (ns : List ℕ) where
   abbrev pub body_of : LinkBody
   body_of = body_in ns (map f32 (take 3 (drop 13 ns) ++ take 7 (drop 22 ns)))
 
+  -- in size, so that either zero never breaks; a record without a breaking load has zero
+  abbrev pub breaking_load_of : Float
+  breaking_load_of = abs_of (float ns 37)
+
   abbrev pub joint_of : LinkJoint
-  joint_of = joint_in ns (map f32 (drop 7 ns))
+  joint_of = record { body1 = at 1 ns; body2 = at 2 ns; joint = kind_in ns (map f32 (take 30 (drop 7 ns))); breaking_load = breaking_load_of }
 
   -- a body where the card has it
   abbrev pub start_body : BodyState

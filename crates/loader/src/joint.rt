@@ -1,14 +1,16 @@
 // A joint of the card, as the solver reads it.
-ghost use Rattle.std.specs.Prelude.{◌≡◌, ◌+◌, ◌≤◌, ◌<◌, ltb, List, ℕ, Some, None, if◌then◌else◌};
+ghost use Rattle.std.specs.Prelude.{◌≡◌, ◌+◌, ◌≤◌, ◌<◌, ltb, List, length, ℕ, Some, None, if◌then◌else◌};
 ghost use Rattle.card.specs.Format.{numbers_at};
 ghost use Rattle.card.specs.Card.{at, edition_of};
-ghost use Rattle.card.specs.Parts.{edition_number, joint_bits, float_at, vec3_at, quat_at};
-ghost use Rattle.loader.specs.Linkage.{model_in, angular_motor_in, linear_motor_in, fixed_in, revolute_in, prismatic_in, spherical_in, distance_in, kind_in, joint_of};
+ghost use Rattle.card.specs.Parts.{edition_number, sizes_of, joint_bits, float_at, vec3_at, quat_at};
+ghost use Rattle.loader.specs.Linkage.{model_in, angular_motor_in, linear_motor_in, fixed_in, revolute_in, prismatic_in, spherical_in, distance_in, kind_in, breaking_load_of, joint_of};
 ghost use Rattle.loader.specs.Parts.{joint_floats};
 
 use card::bits::{float_at, quat_at, vec3_at};
 use card::edition::Edition;
-use card::layout::{ANCHOR1, AXIS, BASIS1, BASIS2, COMPLIANCES, LIMIT1, LIMIT2, MOTOR};
+use card::layout::{
+    ANCHOR1, AXIS, BASIS1, BASIS2, BREAKING_LOAD, COMPLIANCES, LIMIT1, LIMIT2, MOTOR,
+};
 use card::records::{JointBits, JointRecord, joint_bits};
 use joints::distance::DistanceJoint;
 use joints::fixed::FixedJoint;
@@ -17,6 +19,7 @@ use joints::prismatic::PrismaticJoint;
 use joints::revolute::RevoluteJoint;
 use joints::spherical::SphericalJoint;
 use joints::{AngleLimit, DistanceLimit, Joint, JointFrame};
+use scalar::abs;
 use vector::Vec3;
 
 #[derive(Clone, Copy)]
@@ -25,6 +28,8 @@ pub struct LinkJoint {
     pub body1: usize,
     pub body2: usize,
     pub joint: Joint,
+    // In size; zero for one that never breaks.
+    pub breaking_load: f32,
 }
 
 impl LinkJoint {
@@ -38,6 +43,7 @@ impl LinkJoint {
             limits: DistanceLimit::ZERO,
             compliance: 0.0,
         }),
+        breaking_load: 0.0,
     };
 }
 
@@ -206,9 +212,22 @@ impl<'a> JointFields<'a> {
     }
 }
 
+// Zero where the edition has none.
+#[tactic(auto, unfolding(card::specs::Card::edition_of, card::specs::Format::numbers_at, card::specs::Parts::float_at, card::specs::Parts::sizes_of))]
+fn breaking_load(part: JointRecord, edition: Edition) -> f32
+    requires { (sizes_of edition).joint_bytes ≤ length part.bytes.now }
+    ensures { result ≡ breaking_load_of (numbers_at (edition_of (edition_number edition)).joint part.entry.bytes.now 0) }
+{
+    match edition {
+        Edition::One | Edition::Two => 0.0,
+        Edition::Three => abs(float_at(part.bytes, BREAKING_LOAD)),
+    }
+}
+
 // Of a record with no kind number above the last.
 pub fn load_joint(part: JointRecord, edition: Edition) -> LinkJoint
-    requires { at 0 (numbers_at (edition_of (edition_number edition)).joint part.bytes.now 0) < 5 }
+    requires long { (sizes_of edition).joint_bytes ≤ length part.bytes.now }
+    requires kind { at 0 (numbers_at (edition_of (edition_number edition)).joint part.bytes.now 0) < 5 }
     ensures { result ≡ joint_of (numbers_at (edition_of (edition_number edition)).joint part.entry.bytes.now 0) }
 {
     let bits = joint_bits(part.bytes, edition);
@@ -216,5 +235,6 @@ pub fn load_joint(part: JointRecord, edition: Edition) -> LinkJoint
         body1: bits.body1,
         body2: bits.body2,
         joint: JointFields { part, bits }.by_kind().unwrap(),
+        breaking_load: breaking_load(part, edition),
     }
 }

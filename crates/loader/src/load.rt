@@ -1,8 +1,8 @@
 // A card's linkage, loaded into slices of its counts' length.
 ghost use Rattle.std.specs.Prelude.{◌≡◌, map, ◌+◌, ◌*◌, ◌≤◌, ◌<◌, length, ℕ};
-ghost use Rattle.card.specs.Format.{numbers_at, records_at};
+ghost use Rattle.card.specs.Format.{width_of, numbers_at, records_at};
 ghost use Rattle.card.specs.Card.{at, body, edition_of, card_of};
-ghost use Rattle.card.specs.Parts.{edition_number};
+ghost use Rattle.card.specs.Parts.{edition_number, sizes_of};
 ghost use Rattle.loader.specs.Linkage.{body_of, joint_of, linkage_of};
 ghost use Rattle.loader.specs.Parts.{header_of, linkage_in};
 
@@ -12,7 +12,7 @@ use crate::joint::{LinkJoint, load_joint};
 use crate::linkage::Linkage;
 use card::accepted_card::Accepted;
 use card::edition::Edition;
-use card::layout::{BODY_BYTES, JOINT_BYTES};
+use card::layout::BODY_BYTES;
 use card::records::{BodyRecord, JointRecord};
 
 // From byte `first` on. Bodies and joints apart: joints are read by an edition, which asks that their kinds fit. They are written by index, since after an adapter of
@@ -28,17 +28,19 @@ fn load_bodies(card: &[u8], first: usize, bodies: &mut [LinkBody])
 }
 
 // From byte `first` on. The card and a place, as its checks have them.
+#[tactic(auto, using(card::proofs::Editions::joint_bytes_lem))]
 fn load_joints(card: &[u8], edition: Edition, first: usize, joints: &mut [LinkJoint])
-    requires { (first + 123 * length joints.old ≤ length card.now) × ((j : ℕ) → j < length joints.old → at 0 (numbers_at (edition_of (edition_number edition)).joint card.now (8 * first + j * 984)) < 5) }
+    requires { (first + (sizes_of edition).joint_bytes * length joints.old ≤ length card.now) × ((j : ℕ) → j < length joints.old → at 0 (numbers_at (edition_of (edition_number edition)).joint card.now (8 * first + j * width_of (edition_of (edition_number edition)).joint)) < 5) }
     ensures { joints.new ≡ map joint_of (records_at (edition_of (edition_number edition)).joint card.now (8 * first) (length joints.old)) }
 {
-    let parts = card[first..first + JOINT_BYTES * joints.len()].chunks_exact(JOINT_BYTES);
+    let size = edition.sizes().joint_bytes;
+    let parts = card[first..first + size * joints.len()].chunks_exact(size);
     for (j, bytes) in parts.enumerate() {
         joints[j] = load_joint(JointRecord { bytes }, edition);
     }
 }
 
-#[tactic(auto, using(crate::proofs::Accepted::fits))]
+#[tactic(auto, using(crate::proofs::Accepted::bodies_fit))]
 pub fn load<'b, 'j>(
     card: Accepted,
     h: Header,

@@ -1,12 +1,12 @@
 -- A row of values, and what is read of a list after a piece of it was written.
 use Prim.Native.Nat.{ℕ, zero, suc, ◌+◌, ◌*◌, ◌≤◌, ◌<◌}
-use native.Mathlib.Nat.{mul-zero, mul-suc, eq-or-lt_of_le, le_of_suc-le-suc, lt_of_not-le}
+use native.Mathlib.Nat.{mul-zero, eq-or-lt_of_le, le_of_suc-le-suc, lt_of_not-le}
 use native.Mathlib.Decide.{dec_le, le_ind}
 use native.Mathlib.Omega.{arith}
 use mathlib.Core.Path.{◌≡◌, refl, sym, ◌∙◌}
 use mathlib.Core.Logic.{◌⊎◌, inl, inr}
 use mathlib.Core.Bool.{Bool, ◌&&◌, and_assoc}
-use mathlib.Core.List.{List, [], ◌∷◌, ◌++◌, map, append-nil, append_assoc, map-append}
+use mathlib.Core.List.{List, [], ◌∷◌, ◌++◌, map, append-nil, append_assoc}
 use lib.ListN.{length, get_or, set, take, drop, length-append, length-set, length-take, length-drop, get_or-append}
 use lib.Seq.{sets, sets-eq, length-sets, get_or_at, get_or-set_same, get_or-set_other, get_or-take, get_or-drop, ext_get_or, take_at, drop_at, take-add, drop-cons, drop-drop, drop-append-add}
 use lib.Ieee.{Float, nan}
@@ -49,11 +49,6 @@ each_set u v n i a h e f =
     other : (m : ℕ) → m < n → (m ≡ i → ⊥) → u m ≡ get_or (set (each v n) i a) m a
     other m k z = f m z ∙ sym (each_at v n m a k) ∙ sym (get_or-set_other (each v n) i m a a z)
 
-pub each_same : {A : Type 0} (u v : ℕ → A) (n : ℕ) → ((i : ℕ) → i < n → u i ≡ v i) → each u n ≡ each v n
-unfolding each
-each_same u v zero e = refl
-each_same u v (suc n) e = rw (each_same u v n (λ i h. e i (omega arith)), e n (omega arith))
-
 -- ---- a list that is filled place by place
 
 module _ {A : Type 0} (v : ℕ → A) where
@@ -85,24 +80,11 @@ module _ {A : Type 0} (p : A → Bool) where
 
 -- ---- pieces of one length, one behind the other
 
-pub map_each : {A B : Type 0} (f : A → B) (v : ℕ → A) (n : ℕ) → map f (each v n) ≡ each (λ i. f (v i)) n
-unfolding each
-map_each f v zero = refl
-map_each f v (suc n) = rw (map-append f (each v n) (v n ∷ []), map_each f v n)
-
 module _ {A : Type 0} where
   pub concat_last : (ls : List (List A)) (l : List A) → concat (ls ++ (l ∷ [])) ≡ concat ls ++ l
   unfolding concat
   concat_last [] l = append-nil l
   concat_last (m ∷ ls) l = rw (concat_last ls l, append_assoc)
-
-  -- a list cut into n pieces of length k
-  pub concat_each : (g : ℕ → List A) (s : List A) (k from n : ℕ) → ((i : ℕ) → i < n → g i ≡ take k (drop (from + k * i) s)) → concat (each g n) ≡ take (k * n) (drop from s)
-  unfolding concat each
-  concat_each g s k from zero e = rw mul-zero
-  concat_each g s k from (suc n) e =
-      rw (concat_last (each g n) (g n), concat_each g s k from n (λ i h. e i (omega arith)), e n (omega arith), mul-suc, ← (drop-drop (k * n) from s))
-      (sym (take-add (k * n) k (drop from s)))
 
 module _ {A B : Type 0} (f : A → List B) (k : ℕ) (e : (a : A) → length (f a) ≡ k) where
   pub pieces_length : (l : List A) → length (concat (map f l)) ≡ k * length l
@@ -156,7 +138,7 @@ set_past (a ∷ vs) l i k d (inr h) = set_past vs (set l i a) (suc i) k d (inr (
 -- ---- n numbers from a place on
 
 module _ (s : List Float) (at n : ℕ) where
-  number_part : (k p : ℕ) → p ≡ at + k → k < n → get_or s p nan ≡ get_or (take n (drop at s)) k nan
+  pub number_part : (k p : ℕ) → p ≡ at + k → k < n → get_or s p nan ≡ get_or (take n (drop at s)) k nan
   number_part k p e h = rw e (sym (get_or-take n (drop at s) k nan h ∙ get_or-drop at s k nan))
 
   pub vec3_part : (k p : ℕ) → p ≡ at + k → k + 3 ≤ n → vec3_in s p ≡ vec3_in (take n (drop at s)) k

@@ -9,6 +9,7 @@ use Rattle.joints.proofs.RightAngle.{right_angle}
 use Rattle.tick.proofs.Examples as line
 use Rattle.tick.proofs.Dominance.{dominance_gone}
 use Rattle.examples.proofs.Examples as marked
+use Rattle.demand.proofs.Breaks.{breaking}
 use Rattle.demand.proofs.Demand.{demand_three}
 use Rattle.demand.proofs.Sample.{sample_holds}
 use Rattle.promises.specs.Promises.{Promises}
@@ -30,4 +31,5 @@ promises =
       point_5 = dominance_gone;
       point_7 = starts_within;
       point_8 = limits_in_reach;
+      point_11 = breaking;
     }

@@ -13,6 +13,7 @@ use Rattle.joints.specs.RightAngle.{RightAngle}
 use Rattle.tick.specs.Examples as line
 use Rattle.tick.specs.Dominance.{DominanceGone}
 use Rattle.examples.specs.Examples as marked
+use Rattle.demand.specs.Breaks.{Breaks}
 use Rattle.demand.specs.Demand.{DemandThree}
 use Rattle.demand.specs.Sample.{Sample}
 use Rattle.promises.specs.Conversion.{Conversions}
@@ -33,3 +34,4 @@ pub record Promises : Type 0 where
   pub point_5 : DominanceGone
   pub point_7 : StartsWithin
   pub point_8 : LimitsInReach
+  pub point_11 : Breaks

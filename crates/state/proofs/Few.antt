@@ -14,7 +14,7 @@ use Rattle.card.proofs.Accepted.{accepted, at_most_200}
 use Rattle.state.specs.State.{body_numbers, Sizes, sized, sizes_of}
 
 abbrev pub Few : Sizes → Type 0
-Few s = (s.bodies ≤ 255) × (s.joints ≤ 255) × (s.state ≤ 6375) × (body_numbers * s.bodies ≤ s.state)
+Few s = (s.bodies ≤ 255) × (s.joints ≤ 255) × (s.state ≤ 6630) × (body_numbers * s.bodies ≤ s.state)
 
 either : (b : Bool) (n bodies joints : ℕ) → (b ≡ true → (bodies ≤ 255) × (joints ≤ 255)) → Few (if b then sized 0 bodies joints else sized n 0 0)
 either true n bodies joints f = let h = f refl in (h.0, h.1, omega (arith, h.0, h.1), omega arith)

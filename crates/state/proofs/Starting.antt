@@ -12,7 +12,6 @@ use borrow.Author.Tests.{eq-eqb, ne_eqb}
 use Rattle.std.proofs.lemmas.List.{drop-replicate}
 use Rattle.scalar.specs.Arith.{f0}
 use Rattle.solver_body.specs.declared.BodyState.{BodyState}
-use Rattle.xpbd_joints.specs.Steps.{no_totals}
 use Rattle.numbers.specs.Lists.{concat}
 use Rattle.numbers.proofs.Rows.{concat_last, pieces_length}
 use Rattle.numbers.proofs.Writes.{next_piece}
@@ -30,7 +29,7 @@ use Rattle.card.proofs.Editions.{cells, header_width, card_is}
 use Rattle.card.proofs.Accepted.{at_most_200}
 use Rattle.loader.proofs.Accepted.{enough}
 use Rattle.loader.specs.Linkage.{start_body}
-use Rattle.state.specs.State.{body_numbers, joint_numbers, state_length, numbers_of, totals_numbers, start_state, start_checks, answered, unless_refused, start_of, sized, sizes_of}
+use Rattle.state.specs.State.{body_numbers, joint_numbers, state_length, numbers_of, joint_numbers_of, start_joint, start_state, start_checks, answered, unless_refused, start_of, sized, sizes_of}
 use Rattle.state.specs.Parts.{start_numbers}
 use Rattle.state.proofs.Answers.{unless_passed, unless_refused_lem, unless_later}
 
@@ -65,9 +64,9 @@ module _ (l : List ℕ) (from : ℕ) where
       let e : body_numbers * (i + 1) ≡ body_numbers * i + body_numbers = omega arith in
       rw (eu, et, here, next, e) (next_piece (done i) s (numbers_of (start_body r)) (body_numbers * i) (done_length i) h)
 
--- ---- totals of zero
+-- ---- joints as they start
 
-zeros : (js : List (List ℕ)) → concat (map totals_numbers (map (λ j. no_totals) js)) ≡ replicate (joint_numbers * length js) f0
+zeros : (js : List (List ℕ)) → concat (map joint_numbers_of (map (λ j. start_joint) js)) ≡ replicate (joint_numbers * length js) f0
 unfolding concat
 zeros [] = refl
 zeros (j ∷ js) =
@@ -126,9 +125,9 @@ module _ (card : List ℕ) where
       unfolding start_state start_numbers
       written e {sizes} ez {s₁} {s₂} e₁ e₂ =
           let rest : drop (body_numbers * h.bodies) s₁ ≡ replicate (joint_numbers * h.joints) f0 = rw (e₁, e) (drop-replicate (body_numbers * h.bodies) _ f0 ∙ ap (λ k. replicate k f0) (omega arith)) in
-          let totals : concat (map totals_numbers (map (λ j. no_totals) c.joints)) ≡ replicate (joint_numbers * h.joints) f0 = zeros c.joints ∙ rw counts.1 in
+          let joints : concat (map joint_numbers_of (map (λ j. start_joint) c.joints)) ≡ replicate (joint_numbers * h.joints) f0 = zeros c.joints ∙ rw counts.1 in
           let bodies : c.bodies ≡ records_at body card (8 * sizes.header_bytes) h.bodies = rw (card_of_lem, ez, header_width n) in
-          let new : s₂ ≡ start_state c = e₂ ∙ rw (rest, totals, bodies) in
+          let new : s₂ ≡ start_state c = e₂ ∙ rw (rest, joints, bodies) in
           let none : first_of (later s) ≡ 0 = rw (counts.0, counts.1, eq-eqb _ _ e) in
           ap (answered 0) new ∙ unless_passed s (start_state c) (later s) none ∙ started
 

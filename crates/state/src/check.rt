@@ -1,12 +1,12 @@
-// Refusal 12, and 13 of a new state.
+// Refusals 12 and 21, and 13 of a new state.
 ghost use Rattle.std.specs.Prelude.{◌≡◌, not, ◌*◌, ◌≤◌, length};
 ghost use Rattle.scalar.specs.Scalar.{is_finite};
 ghost use Rattle.numbers.specs.Lists.{all};
-ghost use Rattle.state.specs.State.{body_numbers, far_away, bad_numbers};
+ghost use Rattle.state.specs.State.{body_numbers, state_length, far_away, bad_numbers, bad_mark, bad_marks};
 ghost use Rattle.state.specs.Parts.{any_far};
 
-use crate::places::{BODY_NUMBERS, Numbers};
-use scalar::{is_finite, outside};
+use crate::places::{BODY_NUMBERS, Numbers, TOTAL_NUMBERS, state_length};
+use scalar::{is_finite, outside, to_bits};
 use solver_body::POSITION_BOUND;
 use vector::Vec3;
 
@@ -44,4 +44,25 @@ pub fn bad_numbers(bodies: usize, state: &[f32]) -> bool
     ensures { result ≡ bad_numbers bodies state.now }
 {
     any_not_finite(state) | any_far(bodies, state)
+}
+
+// Neither of the bits of 0 nor of 1.
+#[tactic(auto, unfolding(crate::specs::State::bad_mark))]
+fn bad_mark(x: f32) -> bool
+    ensures { result ≡ bad_mark x }
+{
+    let bits = to_bits(x);
+    bits != 0 && bits != 0x3f80_0000
+}
+
+#[tactic(auto, using(crate::proofs::Found::no_mark, crate::proofs::Found::next_mark))]
+pub fn bad_marks(bodies: usize, joints: usize, state: &[f32]) -> bool
+    requires { state_length bodies joints ≤ length state.now }
+    ensures { result ≡ bad_marks bodies joints state.now }
+{
+    let mut bad = false;
+    for j in 0..joints {
+        bad = bad | bad_mark(state[state_length(bodies, j) + TOTAL_NUMBERS]);
+    }
+    bad
 }

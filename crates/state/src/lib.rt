@@ -1,4 +1,4 @@
-// The state: where a body's and a joint's numbers stand, the refusals 11 and 12, its start and its size.
+// The state: where a body's and a joint's numbers stand, the refusals 11, 12 and 21, its start and its size.
 #![tactic(auto)]
 
 pub mod check;

@@ -2,7 +2,7 @@
 ghost use Rattle.std.specs.Prelude.{ℕ, List, Float, ◌≡◌, ◌+◌, ◌≤◌, ◌<◌, ◌^◌, length};
 ghost use Rattle.std.proofs.lemmas.List.Edits.{sets};
 ghost use Rattle.numbers.specs.Numbers.{numbers3, numbers4, vec3_in, quat_in};
-ghost use Rattle.state.specs.State.{body_numbers, joint_numbers, state_length, body_from, totals_from, numbers_of, totals_numbers};
+ghost use Rattle.state.specs.State.{body_numbers, total_numbers, joint_numbers, state_length, body_from, totals_from, joint_from, numbers_of, totals_numbers, joint_numbers_of};
 
 use solver_body::BodyState;
 use vector::{Quat, Vec3};
@@ -10,12 +10,22 @@ use xpbd_joints::JointTotals;
 
 pub const BODY_NUMBERS: usize = 13;
 
-pub const JOINT_NUMBERS: usize = 12;
+// A joint's mark stands behind them.
+pub const TOTAL_NUMBERS: usize = 12;
+
+pub const JOINT_NUMBERS: usize = 13;
 
 // The state of 255 bodies and 255 joints: no card has more of either.
 pub const LARGEST: usize = (BODY_NUMBERS + JOINT_NUMBERS) * 255;
 
-// Of so many bodies and joints; also where joint j's totals begin, behind so many bodies.
+// What a tick leaves of a joint: its totals, and whether it is broken.
+#[derive(Clone, Copy)]
+pub struct JointState {
+    pub totals: JointTotals,
+    pub broken: bool,
+}
+
+// Of so many bodies and joints; also where joint j's numbers begin, behind so many bodies.
 pub fn state_length(bodies: usize, joints: usize) -> usize
     requires { state_length bodies joints < 2 ^ 64 }
     ensures { result ≡ state_length bodies joints }
@@ -112,7 +122,7 @@ impl Numbers for BodyState {
 }
 
 impl Numbers for JointTotals {
-    ghost count = { joint_numbers };
+    ghost count = { total_numbers };
 
     ghost numbers = { totals_numbers };
 
@@ -133,5 +143,25 @@ impl Numbers for JointTotals {
         self.second.write(s, at + 3);
         self.third.write(s, at + 6);
         self.fourth.write(s, at + 9);
+    }
+}
+
+impl Numbers for JointState {
+    ghost count = { joint_numbers };
+
+    ghost numbers = { joint_numbers_of };
+
+    ghost read_from = { joint_from };
+
+    fn read(s: &[f32], at: usize) -> JointState {
+        JointState {
+            totals: JointTotals::read(s, at),
+            broken: s[at + TOTAL_NUMBERS] == 1.0,
+        }
+    }
+
+    fn write(self, s: &mut [f32], at: usize) {
+        self.totals.write(s, at);
+        s[at + TOTAL_NUMBERS] = if self.broken { 1.0 } else { 0.0 };
     }
 }

@@ -12,15 +12,15 @@ use Rattle.solver_body.specs.declared.BodyPair.{BodyPair}
 use Rattle.numbers.proofs.Loops.{after_all}
 use Rattle.loader.specs.Linkage.{Linkage}
 use Rattle.state.specs.State.{body_at}
-use Rattle.tick.specs.Tick.{body, joint, put, put_pair, each_moving, integrated_at, loaded, warm_start_next, warm_started, pre_solve_of, solve_next, solve_pass, solved}
+use Rattle.tick.specs.Tick.{Solved, body, joint, put, put_pair, each_moving, skipped, integrated_at, loaded, warm_start_next, warm_started, pre_solve_of, solve_next, solve_pass, solved}
 
-put_kept : (a : Bool) (l : List SolverBody) (i : ℕ) (b : SolverBody) → length (if a then l else set l i b) ≡ length l
-put_kept true l i b = refl
-put_kept false l i b = length-set l i b
+chosen : {S : Type 0} (of : S → List SolverBody) (a : Bool) (σ τ : S) → length (of τ) ≡ length (of σ) → length (of (if a then σ else τ)) ≡ length (of σ)
+chosen of true σ τ e = refl
+chosen of false σ τ e = e
 
 module _ (K : Linkage) where
   put_length : (i : ℕ) (b : SolverBody) (l : List SolverBody) → length (put K i b l) ≡ length l
-  put_length i b l = put_kept (body K i).anchored l i b
+  put_length i b l = chosen (λ m. m) (body K i).anchored l (set l i b) (length-set l i b)
 
   pair_length : (j : ℕ) (p : BodyPair) (l : List SolverBody) → length (put_pair K j p l) ≡ length l
   pair_length j p l = put_length (joint K j).body2 p.body2 (put K (joint K j).body1 p.body1 l) ∙ put_length (joint K j).body1 p.body1 l
@@ -35,7 +35,7 @@ module _ (K : Linkage) (s : List Float) where
 
   pub warmed_length : length (warm_started K s) ≡ length K.bodies
   unfolding warm_started
-  warmed_length = after_all (warm_start_next K s) (loaded K s) (λ t. length t ≡ length K.bodies) (length K.joints) loaded_length (λ j t _ e. pair_length K j _ t ∙ e)
+  warmed_length = after_all (warm_start_next K s) (loaded K s) (λ t. length t ≡ length K.bodies) (length K.joints) loaded_length (λ j t _ e. chosen (λ m. m) (skipped K s j) t _ (pair_length K j _ t) ∙ e)
 
   pub pre_solve_length : length (pre_solve_of K s) ≡ length K.bodies
   unfolding pre_solve_of
@@ -43,4 +43,4 @@ module _ (K : Linkage) (s : List Float) where
 
   pub solved_length : length (solved K s).bodies ≡ length K.bodies
   unfolding solve_pass solve_next
-  solved_length = after_all (solve_next K s true) _ (λ σ. length σ.bodies ≡ length K.bodies) (length K.joints) pre_solve_length (λ j σ _ e. pair_length K j _ σ.bodies ∙ e)
+  solved_length = after_all (solve_next K s true) _ (λ σ. length σ.bodies ≡ length K.bodies) (length K.joints) pre_solve_length (λ j σ _ e. chosen (λ (τ : Solved). τ.bodies) (skipped K s j) σ _ (pair_length K j _ σ.bodies) ∙ e)

@@ -1,4 +1,5 @@
 pub mod All
+pub mod Written
 pub mod Turning
 pub mod Lengths
 pub mod Turns

@@ -5,7 +5,7 @@ use native.Mathlib.Omega.{arith}
 use mathlib.Core.Path.{◌≡◌, refl, sym, ap, ◌∙◌}
 use mathlib.Core.Bool.{Bool, true, false, not, ◌||◌}
 use mathlib.Core.List.{List, [], ◌∷◌, ◌++◌}
-use lib.ListN.{length, length-map}
+use lib.ListN.{length}
 use lib.Dec.{eqb}
 use lib.Ieee.{Float}
 use borrow.Author.Tests.{eq-eqb, ne_eqb}
@@ -15,15 +15,15 @@ use Rattle.card.specs.Card.{edition_at, card_of}
 use Rattle.card.specs.Checks.{Refusal, refuse, first_of, card_checks, check_of}
 use Rattle.card.proofs.Checking.{first_append}
 use Rattle.card.proofs.Accepted.{accepted}
-use Rattle.loader.specs.Linkage.{Linkage, body_of, joint_of, linkage_of}
+use Rattle.loader.specs.Linkage.{Linkage, linkage_of}
 use Rattle.loader.specs.Parts.{header_of}
 use Rattle.loader.specs.declared.header.Header.{Header}
-use Rattle.state.specs.State.{Answered, state_length, bad_numbers, start_checks, state_checks, answered, unless_refused}
+use Rattle.state.specs.State.{Answered, state_length, bad_numbers, bad_marks, start_checks, state_checks, answered, unless_refused}
 use Rattle.tick.specs.Tick.{turned_linkage, solved, new_state, stopped}
 use Rattle.tick.specs.Run.{Ran, tick_of, tick_next, run_of}
 use Rattle.tick.specs.Work.{ran, next_tick, ticks_next, ticks_of, all_or_nothing}
-use Rattle.tick.proofs.Ends.{new_length}
-use Rattle.tick.proofs.Turning.{bodies_turned, joints_turned}
+use Rattle.tick.proofs.Ends.{new_length, new_marks}
+use Rattle.tick.proofs.Turning.{card_bodies, card_joints}
 
 -- ---- ticks of a linkage
 
@@ -58,12 +58,15 @@ module _ (card : List ℕ) (s : List Float) where
   abbrev bad : Bool
   bad = bad_numbers (length (card_of card).bodies) s
 
+  abbrev unmarked : Bool
+  unmarked = bad_marks (length (card_of card).bodies) (length (card_of card).joints) s
+
   start_first : first_of (start_checks card s) ≡ (if eqb (check_of card) 0 then first_of (refuse 11 wrong_length ∷ []) else check_of card)
   unfolding check_of
   start_first = first_append rows (refuse 11 wrong_length ∷ []) tt
 
-  state_first : first_of (state_checks card s) ≡ (if eqb (first_of (start_checks card s)) 0 then first_of (refuse 12 bad ∷ []) else first_of (start_checks card s))
-  state_first = first_append (start_checks card s) (refuse 12 bad ∷ []) tt
+  state_first : first_of (state_checks card s) ≡ (if eqb (first_of (start_checks card s)) 0 then first_of (refuse 12 bad ∷ refuse 21 unmarked ∷ []) else first_of (start_checks card s))
+  state_first = first_append (start_checks card s) (refuse 12 bad ∷ refuse 21 unmarked ∷ []) tt
 
   tick_first : (b : Bool) → first_of (state_checks card s ++ (refuse 13 b ∷ [])) ≡ (if eqb (first_of (state_checks card s)) 0 then first_of (refuse 13 b ∷ []) else first_of (state_checks card s))
   tick_first b = first_append (state_checks card s) (refuse 13 b ∷ []) tt
@@ -83,9 +86,12 @@ module _ (card : List ℕ) (s : List Float) where
       pub state_refused : bad ≡ true → first_of (state_checks card s) ≡ 12
       state_refused e = state_first ∙ rw (start_passed, e)
 
-      module _ (ok : bad ≡ false) where
+      pub mark_refused : bad ≡ false → unmarked ≡ true → first_of (state_checks card s) ≡ 21
+      mark_refused ok e = state_first ∙ rw (start_passed, ok, e)
+
+      module _ (ok : bad ≡ false) (marked : unmarked ≡ false) where
         state_passed : first_of (state_checks card s) ≡ 0
-        state_passed = state_first ∙ rw (start_passed, ok)
+        state_passed = state_first ∙ rw (start_passed, ok, marked)
 
         stop_first : (b : Bool) → first_of (state_checks card s ++ (refuse 13 b ∷ [])) ≡ first_of (refuse 13 b ∷ [])
         stop_first b = tick_first b ∙ rw state_passed
@@ -117,25 +123,21 @@ module _ (card : List ℕ) (z : check_of card ≡ 0) where
   K = linkage_of (card_of card)
 
   abbrev Good : List Float → Type 0
-  Good s = (length s ≡ state_length (length (card_of card).bodies) (length (card_of card).joints)) × (bad_numbers (length (card_of card).bodies) s ≡ false)
+  Good s =
+      (length s ≡ state_length (length (card_of card).bodies) (length (card_of card).joints)) × (bad_numbers (length (card_of card).bodies) s ≡ false)
+      × (bad_marks (length (card_of card).bodies) (length (card_of card).joints) s ≡ false)
 
   -- at a state's poses
   abbrev turned : List Float → Linkage
   turned s = turned_linkage K s
 
-  bodies_is : (s : List Float) → length (turned s).bodies ≡ length (card_of card).bodies
-  unfolding linkage_of
-  bodies_is s = bodies_turned K s ∙ length-map (card_of card).bodies body_of
-
-  joints_is : (s : List Float) → length (turned s).joints ≡ length (card_of card).joints
-  unfolding linkage_of
-  joints_is s = ap length (joints_turned K s) ∙ length-map (card_of card).joints joint_of
-
   good_next : (s : List Float) → stopped (turned s) s ≡ false → Good (new_state (turned s) s)
   unfolding stopped
   good_next s e =
       let L = turned s in
-      (new_length L s ∙ rw (bodies_is s, joints_is s), rw (bodies_is s) at (or_second (not (solved L s).finite) (bad_numbers (length L.bodies) (new_state L s)) e))
+      let bodies = card_bodies (card_of card) s in
+      let joints = card_joints (card_of card) s in
+      (new_length L s ∙ rw (bodies, joints), rw bodies at (or_second (not (solved L s).finite) (bad_numbers (length L.bodies) (new_state L s)) e), rw (bodies, joints) at (new_marks L s))
 
   -- a tick of the card is a tick of its linkage
   next_by : (b : Bool) (i : ℕ) (s new : List Float)
@@ -146,7 +148,7 @@ module _ (card : List ℕ) (z : check_of card ≡ 0) where
 
   next_same : (i : ℕ) (a : Ran) → a.number ≡ 0 → Good a.state → tick_next card i a ≡ ticks_next K i a
   unfolding tick_next ticks_next
-  next_same i a e g = rw (e, tick_passed card a.state z g.0 g.1) (next_by (stopped (turned a.state) a.state) a.ticks a.state (new_state (turned a.state) a.state))
+  next_same i a e g = rw (e, tick_passed card a.state z g.0 g.1 g.2) (next_by (stopped (turned a.state) a.state) a.ticks a.state (new_state (turned a.state) a.state))
 
   kept_same : (i : ℕ) (a : Ran) → (a.number ≡ 0 → ⊥) → tick_next card i a ≡ ticks_next K i a
   unfolding tick_next ticks_next
@@ -264,6 +266,9 @@ module _ (card : List ℕ) (z : check_of card ≡ 0) {h : Header} (e : h ≡ hea
 
   pub numbers_are : (s : List Float) → bad_numbers (length (card_of card).bodies) s ≡ bad_numbers h.bodies s
   numbers_are s = ap (λ (n : ℕ). bad_numbers n s) (sym bodies_counted)
+
+  pub marks_are : (s : List Float) → bad_marks (length (card_of card).bodies) (length (card_of card).joints) s ≡ bad_marks h.bodies h.joints s
+  marks_are s = rw (bodies_counted, joints_counted)
 
 pub some : (n : ℕ) → (n ≡ 0 → ⊥) → 0 < n
 some zero x = absurd (x refl)

@@ -1,15 +1,16 @@
 -- What a turned linkage has.
 use Prim.Native.Nat.{ℕ, ◌≤◌, ◌<◌}
-use mathlib.Core.Path.{◌≡◌, refl, ◌∙◌}
+use mathlib.Core.Path.{◌≡◌, refl, ap, ◌∙◌}
 use mathlib.Core.List.{List, []}
-use lib.ListN.{length, get_or}
+use lib.ListN.{length, get_or, length-map}
 use lib.Ieee.{Float}
 use Rattle.numbers.specs.Lists.{after}
 use Rattle.std.proofs.lemmas.List.{get_or_default}
 use Rattle.numbers.proofs.Loops.{after_done}
 use Rattle.numbers.proofs.Rows.{each_length, each_at, fill, fill_each}
 use Rattle.solver_body.specs.declared.BodyState.{BodyState}
-use Rattle.loader.specs.Linkage.{Linkage, body_of}
+use Rattle.card.specs.Card.{Card}
+use Rattle.loader.specs.Linkage.{Linkage, body_of, joint_of, linkage_of}
 use Rattle.loader.specs.declared.body.LinkBody.{LinkBody}
 use Rattle.state.specs.State.{body_at}
 use Rattle.tick.specs.Body.{turned_body}
@@ -44,3 +45,13 @@ module _ (K : Linkage) (s : List Float) where
       → ◌≡◌ {A = Linkage} (record { dt = K.dt; gravity = K.gravity; warm_coefficient = K.warm_coefficient; bodies = bs; joints = K.joints }) (turned_linkage K s)
   unfolding turned_linkage
   turned_as e = rw e refl
+
+-- ---- of a card
+
+pub card_bodies : (c : Card) (s : List Float) → length (turned_linkage (linkage_of c) s).bodies ≡ length c.bodies
+unfolding linkage_of
+card_bodies c s = bodies_turned (linkage_of c) s ∙ length-map c.bodies body_of
+
+pub card_joints : (c : Card) (s : List Float) → length (turned_linkage (linkage_of c) s).joints ≡ length c.joints
+unfolding linkage_of
+card_joints c s = ap length (joints_turned (linkage_of c) s) ∙ length-map c.joints joint_of

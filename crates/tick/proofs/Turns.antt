@@ -27,7 +27,7 @@ use Rattle.solver_body.specs.declared.BodyState.{BodyState}
 use Rattle.state.specs.State.{body_at, totals_at}
 use Rattle.tick.specs.Body.{integrated, finished_body}
 use Rattle.tick.proofs.Lengths.{pre_solve_length, solved_length}
-use Rattle.tick.specs.Tick.{body, joint, put, pair, put_pair, setting, integrated_at, rigid, steps, warm_start_next, pre_solve_of, solved, new_body}
+use Rattle.tick.specs.Tick.{body, joint, put, pair, put_pair, setting, integrated_at, rigid, skipped, steps, warm_start_next, pre_solve_of, solved, new_body}
 use Rattle.tick.specs.Parts.{joint_warmed, joint_solved}
 use Rattle.tick.specs.declared.joint.JointResult.{JointResult}
 use Rattle.tick.specs.declared.linked.Tick.{Tick}
@@ -98,6 +98,6 @@ module _ (K : Linkage) (s : List Float) (j : ℕ) where
       let g = (joint K j).body2 in
       ap (λ m. put K g (get_or l g dummy_body) m) (put_same (body K f).anchored l f) ∙ put_same (body K g).anchored l g
 
-  pub warm_skip : driven (joint K j).joint ≡ false → (l : List SolverBody) → l ≡ warm_start_next K s j l
+  pub warm_skip : skipped K s j ≡ false → driven (joint K j).joint ≡ false → (l : List SolverBody) → l ≡ warm_start_next K s j l
   unfolding steps
-  warm_skip off l = sym (ap (λ p. put_pair K j p l) (unwarmed (joint K j).joint off _ _ _ _ _ (pair K j l)) ∙ put_back l)
+  warm_skip whole off l = rw whole (sym (ap (λ p. put_pair K j p l) (unwarmed (joint K j).joint off _ _ _ _ _ (pair K j l)) ∙ put_back l))

@@ -1,6 +1,8 @@
--- The numbers that refusal 13 looks at after a joint's solve. Definitions only.
-use Rattle.std.specs.Prelude.{List, ◌++◌, Float}
-use Rattle.vector.specs.Vector.{any_orthonormal}
+-- The numbers that refusal 13 looks at after a joint's solve, and whether the joint breaks. Definitions only.
+use Rattle.std.specs.Prelude.{Bool, not, ◌&&◌, List, ◌++◌, Float}
+use Rattle.std.specs.Float.Ieee.{lt, eq}
+use Rattle.scalar.specs.Arith.{◌⊗◌, ◌⊘◌, f0}
+use Rattle.vector.specs.Vector.{length_of, any_orthonormal}
 use Rattle.vector.specs.declared.Vec3.{Vec3}
 use Rattle.joints.specs.declared.JointFrame.{JointFrame}
 use Rattle.joints.specs.declared.Joint.{Joint}
@@ -47,3 +49,7 @@ looked_at j b₁ b₂ i₁ i₂ r =
     prepared_numbers j b₁ b₂ ++ totals_numbers r.totals ++ solver_numbers r.bodies.body1 ++ solver_numbers r.bodies.body2
     ++ numbers6 i₁.inv_angular_inertia
     ++ numbers6 i₂.inv_angular_inertia
+
+-- document 02, point 11: the length of a joint's first total, over h², exceeds its load; a load of zero never breaks
+unfoldable pub overloaded : Float → Vec3 → Float → Bool
+overloaded load first h = not (eq load f0) && lt load (length_of first ⊘ (h ⊗ h))

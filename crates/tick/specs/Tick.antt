@@ -1,5 +1,5 @@
--- Document 01, 'One tick', of a linkage and a state: each body by itself, the joints in card order, and refusal 13.
-use Rattle.std.specs.Prelude.{ℕ, Bool, true, false, not, ◌||◌, ◌&&◌, List, [], map, length, get_or, set, replicate, Float, if◌then◌else◌}
+-- Document 01, 'One tick', of a linkage and a state: each body by itself, the joints in card order, those that break, and refusal 13.
+use Rattle.std.specs.Prelude.{ℕ, Bool, true, not, ◌||◌, ◌&&◌, List, [], map, length, get_or, set, replicate, Float, if◌then◌else◌}
 use Rattle.scalar.specs.Scalar.{is_finite}
 use Rattle.solver_body.specs.Body.{solver_body_of, dummy_body}
 use Rattle.solver_body.specs.declared.BodyState.{BodyState}
@@ -13,9 +13,10 @@ use Rattle.numbers.specs.Lists.{all, each, after}
 use Rattle.loader.specs.Linkage.{Linkage, body_of, joint_of}
 use Rattle.loader.specs.declared.body.LinkBody.{LinkBody}
 use Rattle.loader.specs.declared.joint.LinkJoint.{LinkJoint}
-use Rattle.state.specs.State.{body_at, totals_at, state_of, bad_numbers}
+use Rattle.state.specs.State.{body_at, totals_at, broken_at, state_of, bad_numbers}
+use Rattle.state.specs.declared.places.JointState.{JointState}
 use Rattle.tick.specs.Body.{turned_body, integrated, finished_body}
-use Rattle.tick.specs.Joint.{looked_at}
+use Rattle.tick.specs.Joint.{looked_at, overloaded}
 
 -- the solver's bodies and the joints' totals after the joints so far, and whether all numbers looked at were finite
 pub record Solved : Type 0 where
@@ -30,10 +31,6 @@ module _ (K : Linkage) where
 
   abbrev pub joint : ℕ → LinkJoint
   joint j = get_or K.joints j (joint_of [])
-
-  -- no joint is passed over
-  abbrev pub skipped : ℕ → Bool
-  skipped j = false
 
   -- among the solver's bodies, an anchored one's place keeps the dummy
   abbrev pub put : ℕ → SolverBody → List SolverBody → List SolverBody
@@ -68,6 +65,10 @@ module _ (K : Linkage) (s : List Float) where
   abbrev pub rigid : ℕ → RigidBody
   rigid i = record { position = (body_at s i).position; rotation = (body_at s i).rotation; center_of_mass = (body K i).center_of_mass }
 
+  -- a joint that is broken as the tick begins is passed over
+  abbrev pub skipped : ℕ → Bool
+  skipped j = broken_at (length K.bodies) s j
+
   unfoldable pub steps : ℕ → List Step
   steps j = let k = joint K j in steps_of k.joint (rigid k.body1) (rigid k.body2)
 
@@ -82,7 +83,7 @@ module _ (K : Linkage) (s : List Float) where
   warmed_by j l = warmed (setting K true j) K.warm_coefficient (totals_at (length K.bodies) s j) (steps j) (pair K j l)
 
   abbrev pub warm_start_next : ℕ → List SolverBody → List SolverBody
-  warm_start_next j l = if skipped K j then l else put_pair K j (warmed_by j l) l
+  warm_start_next j l = if skipped j then l else put_pair K j (warmed_by j l) l
 
   unfoldable pub warm_started : List SolverBody
   warm_started = after warm_start_next loaded (length K.joints)
@@ -109,7 +110,7 @@ module _ (K : Linkage) (s : List Float) where
   unfoldable pub solve_next : Bool → ℕ → Solved → Solved
   solve_next motors j σ =
       let r = solved_by motors j σ in
-      if skipped K j then σ
+      if skipped j then σ
       else record { bodies = put_pair K j r.bodies σ.bodies; totals = set σ.totals j r.totals; finite = σ.finite && all is_finite (looked j r) }
 
   -- the first n joints, with motors or without
@@ -124,7 +125,7 @@ module _ (K : Linkage) (s : List Float) where
 
   -- joint j's stages and pushes
   unfoldable pub events_at : ℕ → List Event
-  events_at j = events (setting K true j) (steps j) (found j (solved_to j))
+  events_at j = if skipped j then [] else events (setting K true j) (steps j) (found j (solved_to j))
 
   -- ---- after the solve
 
@@ -133,8 +134,14 @@ module _ (K : Linkage) (s : List Float) where
       if (body K i).anchored then body_at s i
       else finished_body (rigid i) (get_or pre_solve_of i dummy_body) (get_or solved.bodies i dummy_body) K.dt
 
+  unfoldable pub breaks : ℕ → Bool
+  breaks j = overloaded (joint K j).breaking_load (get_or solved.totals j no_totals).first K.dt
+
+  abbrev pub new_joint : ℕ → JointState
+  new_joint j = record { totals = get_or solved.totals j no_totals; broken = skipped j || breaks j }
+
   unfoldable pub new_state : List Float
-  new_state = state_of (each new_body (length K.bodies)) solved.totals
+  new_state = state_of (each new_body (length K.bodies)) (each new_joint (length K.joints))
 
   -- refusal 13
   unfoldable pub stopped : Bool

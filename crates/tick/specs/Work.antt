@@ -1,15 +1,15 @@
 -- What the steps of a tick and the ticks of a run hand to each other: Tick.antt needs none of it.
-use Rattle.std.specs.Prelude.{ℕ, ◌+◌, Bool, true, false, List, length, eqb, Float, if◌then◌else◌}
+use Rattle.std.specs.Prelude.{ℕ, ◌+◌, Bool, true, false, List, map, length, eqb, Float, if◌then◌else◌}
 use Rattle.joints.specs.declared.Joint.{Joint}
 use Rattle.joints.specs.declared.Joint.TheVariants.{Fixed, Revolute, Prismatic, Spherical, Distance}
 use Rattle.solver_body.specs.declared.SolverBody.{SolverBody}
 use Rattle.xpbd_joints.specs.Steps.{Run}
 use Rattle.tick.specs.Parts.{result_of}
 use Rattle.tick.specs.declared.joint.JointResult.{JointResult}
-use Rattle.numbers.specs.Lists.{each, after}
+use Rattle.numbers.specs.Lists.{concat, each, after}
 use Rattle.loader.specs.Linkage.{Linkage}
-use Rattle.state.specs.State.{totals_at}
-use Rattle.tick.specs.Tick.{Solved, body, joint, rigid, turned_linkage, new_state, stopped}
+use Rattle.state.specs.State.{totals_at, joint_numbers_of}
+use Rattle.tick.specs.Tick.{Solved, body, joint, rigid, turned_linkage, new_joint, new_state, stopped}
 use Rattle.tick.specs.Run.{Ran}
 
 -- ---- a joint
@@ -33,6 +33,12 @@ driven (Distance j) = false
 -- as far as it has come with no number that isn't finite, the totals among the new state's numbers
 abbrev pub solved_in : Linkage → List SolverBody → List Float → Solved
 solved_in K bodies new = record { bodies = bodies; totals = each (totals_at (length K.bodies) new) (length K.joints); finite = true }
+
+-- ---- the new state
+
+-- the joints' numbers, behind the bodies'
+abbrev pub new_joints : Linkage → List Float → List Float
+new_joints K s = concat (map joint_numbers_of (each (new_joint K s) (length K.joints)))
 
 -- ---- ticks in a row of a state that no check refuses
 

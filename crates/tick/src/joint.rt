@@ -1,13 +1,14 @@
-// A joint in a tick: its warm start and its solve by kind (src/dynamics/solver/xpbd/plugin.rs), and whether all numbers are finite.
+// A joint in a tick: its warm start and its solve by kind (src/dynamics/solver/xpbd/plugin.rs), whether all numbers are finite, and whether it breaks.
 ghost use Rattle.std.specs.Prelude.{◌≡◌};
 ghost use Rattle.joints.specs.Reach.{InReach, EachAngleLimit};
+ghost use Rattle.tick.specs.Joint.{overloaded};
 ghost use Rattle.tick.specs.Parts.{prepared_with, tested_of, joint_warmed, joint_solved};
 
 use crate::constraint::XpbdConstraint;
 use crate::finite::Finite;
 use joints::Joint;
 use solver_body::{BodyPair, RigidBody, SolverBodyInertia};
-use vector::SymmetricTensor;
+use vector::{SymmetricTensor, Vec3};
 use xpbd_joints::{JointTotals, prismatic, revolute};
 
 // What a tick keeps of a joint's solve. The flag stands beside the numbers, since the C interface of the comparison's parts gives both.
@@ -138,4 +139,15 @@ pub fn solve_joint(
         inertia1.inv_angular_inertia,
         inertia2.inv_angular_inertia,
     )
+}
+
+// Under its first total. A load of zero never breaks.
+#[tactic(auto, unfolding(crate::specs::Joint::overloaded))]
+pub fn overloaded(load: f32, first: Vec3, dt: f32) -> bool
+    ensures { result ≡ overloaded load first dt }
+{
+    if load == 0.0 {
+        return false;
+    }
+    load < first.length() / (dt * dt)
 }

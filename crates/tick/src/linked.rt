@@ -1,17 +1,19 @@
 // A tick's linkage and state, and one body or one joint of it.
-ghost use Rattle.std.specs.Prelude.{◌≡◌, true, ◌<◌, length, if◌then◌else◌};
+ghost use Rattle.std.specs.Prelude.{◌≡◌, true, ◌||◌, ◌<◌, length, if◌then◌else◌};
 ghost use Rattle.loader.specs.Parts.{linkage_in};
 ghost use Rattle.xpbd_joints.specs.Steps.{no_totals, run};
 ghost use Rattle.state.specs.State.{state_length, body_at};
 ghost use Rattle.tick.specs.Body.{finished_body};
-ghost use Rattle.tick.specs.Tick.{body, joint, put, pair, rigid, setting, steps, warmed_by};
+ghost use Rattle.tick.specs.Joint.{overloaded};
+ghost use Rattle.tick.specs.Tick.{body, joint, put, pair, rigid, setting, skipped, steps, warmed_by};
 ghost use Rattle.tick.specs.Work.{result_at};
 
 use crate::body::finish;
-use crate::joint::{JointResult, solve_joint, warm_start_joint};
+use crate::joint::{JointResult, overloaded, solve_joint, warm_start_joint};
 use loader::linkage::Linkage;
 use solver_body::{BodyPair, BodyState, RigidBody, SolverBody, SolverBodyInertia};
-use state::places::{BODY_NUMBERS, Numbers, state_length};
+use state::places::{BODY_NUMBERS, JointState, Numbers, state_length};
+use vector::Vec3;
 use xpbd_joints::JointTotals;
 
 // A linkage, its inertias turned, and the state that it is in.
@@ -20,6 +22,27 @@ pub struct Tick<'b, 'j, 's> {
     pub linkage: Linkage<'b, 'j>,
     pub state: &'s [f32],
     pub ghost sized: { length state.now ≡ state_length (length linkage.bodies.now) (length linkage.joints.now) },
+}
+
+impl<'b, 'j, 's> Tick<'b, 'j, 's> {
+    // Whether the state has a joint broken: the tick passes it over.
+    #[tactic(auto, unfolding(state::specs::State::broken_at))]
+    pub fn skipped(&self, j: usize) -> bool
+        requires { j < length self.now.linkage.joints.now }
+        ensures { result ≡ skipped (linkage_in self.now.linkage) self.now.state.now j }
+    {
+        let at = state_length(self.linkage.bodies.len(), j);
+        JointState::read(self.state, at).broken
+    }
+
+    // Whether a joint is broken after the tick, which gave it this first total.
+    pub fn broken(&self, j: usize, first: Vec3) -> bool
+        requires { j < length self.now.linkage.joints.now }
+        ensures { result ≡ (skipped (linkage_in self.now.linkage) self.now.state.now j || overloaded (joint (linkage_in self.now.linkage) j).breaking_load first self.now.linkage.dt) }
+    {
+        let load = self.linkage.joints[j].breaking_load;
+        self.skipped(j) || overloaded(load, first, self.linkage.dt)
+    }
 }
 
 #[derive(Clone, Copy)]

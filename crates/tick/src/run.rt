@@ -17,7 +17,7 @@ use loader::header::{Header, header_of};
 use loader::joint::LinkJoint;
 use loader::load::load;
 use solver_body::SolverBody;
-use state::check::bad_numbers;
+use state::check::{bad_marks, bad_numbers};
 use state::places::{BODY_NUMBERS, JOINT_NUMBERS, state_length};
 
 // What a run answers, and how many ticks were done, before a refused one too.
@@ -38,7 +38,7 @@ fn run_within<const ROOM: usize, const NUMBERS: usize>(
 ) -> RunAnswer
     requires header { h ≡ header_of (card_of card.bytes.now) }
     requires state { length state.old ≡ state_length h.bodies h.joints }
-    requires room { (h.bodies ≤ ROOM) × (h.joints ≤ ROOM) × (state_length h.bodies h.joints ≤ NUMBERS) × (ROOM ≤ 200) × (NUMBERS ≤ 5000) }
+    requires room { (h.bodies ≤ ROOM) × (h.joints ≤ ROOM) × (state_length h.bodies h.joints ≤ NUMBERS) × (ROOM ≤ 200) × (NUMBERS ≤ 5200) }
     ensures { ran (number_of result.answer) result.ticks state.new ≡ all_or_nothing state.old (ticks_of (linkage_of (card_of card.entry.bytes.now)) state.old ticks) }
 {
     let mut own = [LinkBody::DUMMY; ROOM];
@@ -102,6 +102,9 @@ pub fn run(card: &[u8], state: &mut [f32], ticks: u32) -> RunAnswer
     }
     if bad_numbers(h.bodies, state) {
         return refused(Refusal::StateNumber);
+    }
+    if bad_marks(h.bodies, h.joints, state) {
+        return refused(Refusal::JointMark);
     }
     let most = h.bodies.max(h.joints);
     if most <= FEW {

@@ -57,6 +57,7 @@ impl<'b, 'j, 'w> Running<'b, 'j, 'w> {
         tick.integrate_bodies(bodies);
         pre_solve.copy_from_slice(bodies);
         tick.solve_joints(bodies, next)?;
+        tick.mark_joints(next);
         tick.finish_bodies(pre_solve, bodies, next);
         if bad_numbers(tick.linkage.bodies.len(), next) {
             return Err(Stopped);

@@ -1,6 +1,7 @@
 //! Writes the stored answers that the Rattle test programs replay: `answers DIR`, where DIR holds the crates, writes DIR/NAME/stdin and DIR/NAME/stdout
 //! of replay_root, replay_trig and replay_table. A NaN is written as 7fc00000.
 
+use oracle::card::{Body, Card, Joint, BALL, EDITION_3};
 use oracle::compare::leaves::{angles, roots};
 use oracle::families::FAMILIES;
 use oracle::generate::Random;
@@ -77,15 +78,32 @@ fn sum(state: &[f32]) -> u64 {
     })
 }
 
-/// A tick count, a card's length and a card of a family to a line with the number that a run answers, the ticks done and the sum of the state after.
+/// A body that hangs on two balls, of which the first breaks in the first tick.
+fn breaking() -> Card {
+    let loaded = |breaking_load| Joint {
+        breaking_load,
+        ..Joint::plain(BALL, 0, 1)
+    };
+    Card {
+        edition: EDITION_3.number,
+        rate: 64,
+        gravity: -8.0,
+        bodies: vec![Body::UNIT, Body::ANCHORED],
+        joints: vec![loaded(1.0), loaded(f32::MAX)],
+        ..Card::default()
+    }
+}
+
+/// A tick count, a card's length and a card, of a family or the one above, to a line with the number that a run answers, the ticks done and the sum of the state
+/// after.
 fn table() -> Answers {
     let mut input = Vec::new();
     let mut output = String::new();
     let counts = FAMILIES.iter().zip(REPLAYED);
-    let cases = counts
-        .flat_map(|(family, (cards, ticks))| (0..cards).map(move |case| (family, case, ticks)));
-    for (family, case, ticks) in cases {
-        let card = (family.draw)(&mut Random::of_case(1, case));
+    let cards = counts.flat_map(|(family, (cards, ticks))| {
+        (0..cards).map(move |case| ((family.draw)(&mut Random::of_case(1, case)), ticks))
+    });
+    for (card, ticks) in cards.chain([(breaking(), 2)]) {
         let bytes = card.encode();
         let mut state = table::start_state(&card);
         let ran = table::run(&bytes, &mut state, ticks.into());

@@ -2,7 +2,7 @@
 //!
 //! Lengths are in metres, masses in kilograms, angles in radians. The linkages lie in the x-y plane, with gravity along -y; body 0 is the frame.
 
-use oracle::card::{Body, Card, Joint, BALL, EDITION_2, HINGE, SLIDE, TETHER};
+use oracle::card::{Body, Card, Joint, BALL, EDITION_2, EDITION_3, HINGE, SLIDE, TETHER};
 use oracle::generate::held;
 use std::f32::consts::FRAC_PI_2;
 use std::f64::consts::{FRAC_1_SQRT_2, FRAC_PI_4};
@@ -173,12 +173,12 @@ fn chain_199() -> Card {
     large_card(bodies, joints)
 }
 
-/// 199 planks of 0.25 between two abutments, which are the frame. Each hangs as steeply as the planks from it to the middle pull, half as steep as 45 degrees
-/// at the ends, so that all would stay; but the one in the middle is of 20 kg.
-fn bridge() -> Card {
-    let middle = 99;
+/// The bodies and the hinges of a bridge: the frame, and an odd number of planks of 0.25 between two abutments, which are the frame. Each plank hangs as
+/// steeply as the planks from it to the middle pull, half as steep as 45 degrees at the ends, so that all would stay; but the one in the middle weighs more.
+fn bridge(planks: usize, middle_kg: f32) -> (Vec<Body>, Vec<Joint>) {
+    let middle = planks / 2;
     let mut ends = vec![[0.0, 0.0]];
-    for i in 0..199 {
+    for i in 0..planks {
         let [x, y]: Point = ends[i];
         let (sine, cosine) = (0.5 * (i as f64 - middle as f64) / middle as f64)
             .atan()
@@ -186,13 +186,32 @@ fn bridge() -> Card {
         ends.push([x + 0.25 * cosine, y + 0.25 * sine]);
     }
     let mut bodies = vec![frame()];
-    bodies.extend((0..199).map(|i| bar(ends[i], ends[i + 1])));
+    bodies.extend((0..planks).map(|i| bar(ends[i], ends[i + 1])));
     let load = &mut bodies[1 + middle];
-    load.inv_mass /= 20.0;
-    load.inv_inertia = load.inv_inertia.map(|x| x / 20.0);
-    let joint = |i: usize| at(HINGE, &bodies, i as u32, (i as u32 + 1) % 200, ends[i]);
-    let joints = (0..200).map(joint).collect();
+    load.inv_mass /= middle_kg;
+    load.inv_inertia = load.inv_inertia.map(|x| x / middle_kg);
+    let count = planks as u32 + 1;
+    let joint = |i: u32| at(HINGE, &bodies, i, (i + 1) % count, ends[i as usize]);
+    let joints = (0..count).map(joint).collect();
+    (bodies, joints)
+}
+
+/// As many planks as there can be, and 20 kg in their middle.
+fn long_bridge() -> Card {
+    let (bodies, joints) = bridge(199, 20.0);
     large_card(bodies, joints)
+}
+
+/// 21 planks, 40 kg in their middle, and hinges that bear no more than 4,000 N.
+fn failing_bridge() -> Card {
+    let (bodies, mut joints) = bridge(21, 40.0);
+    for joint in &mut joints {
+        joint.breaking_load = 4000.0;
+    }
+    Card {
+        edition: EDITION_3.number,
+        ..card(-9.81, bodies, joints)
+    }
 }
 
 /// Five bars on ball joints, let go from the level.
@@ -280,7 +299,8 @@ fn main() {
         ("right_angle", held(HINGE, FRAC_PI_2)),
         ("rod", rod()),
         ("chain_199", chain_199()),
-        ("bridge", bridge()),
+        ("bridge", long_bridge()),
+        ("failing_bridge", failing_bridge()),
     ];
     for (name, card) in cards {
         let path = Path::new(&folder).join(format!("{name}.card"));

@@ -1,9 +1,9 @@
 //! Compares the program's whole output with the oracle's: `programs [--seed S] [--count N] PROGRAM` runs PROGRAM on N random inputs, on a card of as many bodies
-//! as edition 1 has for as many ticks as there can be, on one of as many bodies and joints as edition 2 has, whole and damaged, and on cards that reach each
-//! refusal that can come from a program. It fails at the first input with other lines, which it writes to target/differences, and where a class of inputs
+//! as edition 1 has for as many ticks as there can be, on one of as many bodies and joints as editions 2 and 3 have, whole and damaged, and on cards that reach
+//! each refusal that can come from a program. It fails at the first input with other lines, which it writes to target/differences, and where a class of inputs
 //! that it looks for never came up.
 
-use oracle::card::{self, Body, Card, Edition, Joint, BALL, EDITION_1, EDITION_2};
+use oracle::card::{self, Body, Card, Edition, Joint, BALL, EDITION_1, EDITION_2, EDITION_3};
 use oracle::compare::Hits;
 use oracle::generate::{self, Random};
 use std::fs::{self, File};
@@ -11,7 +11,7 @@ use std::path::{Path, PathBuf};
 use std::process::{Command, ExitCode};
 use std::{env, io};
 
-/// The ticks of the card with as many bodies as edition 2 has.
+/// The ticks of the cards with as many bodies as editions 2 and 3 have.
 const LARGE_TICKS: u16 = 1000;
 
 struct Options {
@@ -41,8 +41,8 @@ fn input(ticks: u16, card: &[u8]) -> Vec<u8> {
     [&ticks.to_be_bytes(), card].concat()
 }
 
-/// As many bodies and joints as an edition has: bodies that spin about balls on a frame, each at a speed of its own. Nothing leaves its place, so no tick is
-/// refused.
+/// As many bodies and joints as an edition has: bodies that spin about balls on a frame, each at a speed of its own. Nothing leaves its place but what falls
+/// where edition 3 has a load on every second ball that its body's weight is above, so no tick is refused.
 fn largest(edition: &Edition, rate: u32) -> Vec<u8> {
     let mut bodies = vec![Body::ANCHORED];
     let mut joints = Vec::new();
@@ -55,6 +55,7 @@ fn largest(edition: &Edition, rate: u32) -> Vec<u8> {
         });
         joints.push(Joint {
             anchor1: position,
+            breaking_load: (i % 2) as f32,
             ..Joint::plain(BALL, 0, i as u32)
         });
     }
@@ -73,16 +74,16 @@ fn largest(edition: &Edition, rate: u32) -> Vec<u8> {
 
 /// Inputs that are no random ones.
 fn given(random: &mut Random) -> Vec<Vec<u8>> {
-    let large = largest(&EDITION_2, EDITION_2.fastest);
-    let mut inputs = vec![
-        input(u16::MAX, &largest(&EDITION_1, 240)),
-        input(LARGE_TICKS, &large),
-        input(1, &[&large[..], &[0; 70000]].concat()),
-    ];
-    for number in card::REFUSALS {
-        let mut damaged = large.clone();
-        generate::damage(random, &mut damaged, number);
-        inputs.push(input(1, &damaged));
+    let mut inputs = vec![input(u16::MAX, &largest(&EDITION_1, 240))];
+    for edition in [EDITION_2, EDITION_3] {
+        let large = largest(&edition, edition.fastest);
+        inputs.push(input(LARGE_TICKS, &large));
+        inputs.push(input(1, &[&large[..], &[0; 70000]].concat()));
+        for number in card::REFUSALS {
+            let mut damaged = large.clone();
+            generate::damage(random, &mut damaged, number);
+            inputs.push(input(1, &damaged));
+        }
     }
     inputs
 }
@@ -126,19 +127,23 @@ fn count_classes(input: &[u8], lines: &str, hits: &mut Hits) {
     hits.look("ticks done", number == 0 && !lines.is_empty());
     hits.look("no ticks", number == 0 && lines.is_empty());
     hits.look("no count", input.len() < 2);
-    for (class, ticks, edition) in [
-        (
-            "most bodies of edition 1 and most ticks",
-            u16::MAX,
-            EDITION_1,
-        ),
-        ("most bodies of edition 2", LARGE_TICKS, EDITION_2),
+    let of = |edition: &Edition| input.get(2) == Some(&(edition.number as u8));
+    for (edition, ticks) in [
+        (EDITION_1, u16::MAX),
+        (EDITION_2, LARGE_TICKS),
+        (EDITION_3, LARGE_TICKS),
     ] {
+        let class = format!(
+            "most bodies of edition {} and {ticks} ticks",
+            edition.number
+        );
         let last = format!("\n{ticks} {} ", edition.most - 1);
-        hits.look(class, lines.contains(&last));
+        hits.look(class, of(&edition) && lines.contains(&last));
     }
-    let large = input.get(2) == Some(&2) && input.len() > 43000;
-    hits.look("a large card is refused", large && number != 0);
+    for edition in [EDITION_2, EDITION_3] {
+        let class = format!("a large card of edition {} is refused", edition.number);
+        hits.look(class, of(&edition) && input.len() > 43000 && number != 0);
+    }
 }
 
 /// Whether all inputs give the same lines.

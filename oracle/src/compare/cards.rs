@@ -10,7 +10,7 @@ use crate::generate::{self, Places, Random};
 
 /// The lengths of random bytes: all that a card of edition 1 may have, and then some to a little over the largest card.
 fn lengths() -> impl Iterator<Item = usize> {
-    (0..7000).chain((7000..44000).step_by(149))
+    (0..7000).chain((7000..45000).step_by(149))
 }
 
 impl Tables {
@@ -24,11 +24,15 @@ impl Tables {
         }
         hits.look(
             "sizes of the largest card of edition 1",
-            bytes.len() == 6956 && sizes.counts == [32, 32, 800],
+            bytes.len() == 6956 && sizes.counts == [32, 32, 832],
         );
         hits.look(
             "sizes of the largest card of edition 2",
-            bytes.len() == 43416 && sizes.counts == [200, 200, 5000],
+            bytes.len() == 43416 && sizes.counts == [200, 200, 5200],
+        );
+        hits.look(
+            "sizes of the largest card of edition 3",
+            bytes.len() == 44216 && sizes.counts == [200, 200, 5200],
         );
         // The length that the counts give, whether the card is refused or not, and others.
         let length = Places::of(bytes).map_or(0, |places| {
@@ -149,10 +153,10 @@ impl Tables {
         let mut compared = 0;
         for (i, first) in card::REFUSALS.into_iter().enumerate() {
             for second in card::REFUSALS.into_iter().skip(i + 1) {
-                for case in 0..60 {
+                for case in 0..90 {
                     let random = &mut Random::of_case(seed + (100 * first + second) as u64, case);
                     let mut card = generate::card(random);
-                    let edition = EDITIONS[case as usize % 2];
+                    let edition = EDITIONS[case as usize % EDITIONS.len()];
                     if !fits(&card, &edition) {
                         continue;
                     }
@@ -187,13 +191,11 @@ impl Tables {
             };
             let answer = self.card(&card.encode(), hits)?;
             let class = match number {
-                0..=3 | 255 => format!("edition {number}"),
+                0..=4 | 255 => format!("edition {number}"),
                 _ => "another edition".to_string(),
             };
-            hits.look(
-                class,
-                answer == if (1..=2).contains(&number) { 0 } else { 2 },
-            );
+            let known = Edition::of_number(number).is_some();
+            hits.look(class, answer == if known { 0 } else { 2 });
             compared += 1;
         }
         for length in lengths() {

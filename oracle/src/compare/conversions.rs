@@ -3,9 +3,12 @@
 use super::cards::limits;
 use super::tables::{fits, Call, Tables};
 use super::{shrink, Difference, Hits, Table};
-use crate::card::{self, Card, Edition, EDITIONS, EDITION_1, EDITION_2, LEAST_BYTES};
+use crate::card::{self, Card, Edition, EDITION_1, EDITION_2, LEAST_BYTES};
 use crate::convert::Converted;
 use crate::generate::{self, Random};
+
+/// Those that a card is converted between.
+const CONVERTED: [Edition; 2] = [EDITION_1, EDITION_2];
 
 /// A slice before a conversion: bytes that show where it is written.
 fn blank(length: usize) -> Vec<u8> {
@@ -180,7 +183,7 @@ impl Tables {
     /// Both sides of each limit of each edition, both ways.
     fn converted_limits(&self, hits: &mut Hits) -> Result<u64, Box<Difference>> {
         let mut compared = 0;
-        for to in &EDITIONS {
+        for to in &CONVERTED {
             for (what, card, own) in limits(other(to)) {
                 let room = bytes_in(&card, to).len();
                 let expected = match own {
@@ -194,7 +197,7 @@ impl Tables {
                 let wanted = self.conversion(to, &bytes_in(&card, to), room, hits)?.0;
                 let class = format!("to edition {}, of it already: 2", to.number);
                 hits.look(class, wanted == 2);
-                for edition in [0, 3, 255] {
+                for edition in [0, 3, 4, 255] {
                     let unknown = [&[edition], &card.encode()[1..]].concat();
                     let number = self.conversion(to, &unknown, room, hits)?.0;
                     let class = format!("to edition {}, edition {edition}: 2", to.number);
@@ -204,7 +207,7 @@ impl Tables {
                     let class = format!("to edition {}, 1 before 2", to.number);
                     hits.look(class, number == 1);
                 }
-                compared += 8;
+                compared += 10;
             }
         }
         Ok(compared)
@@ -213,7 +216,7 @@ impl Tables {
     /// Each of the card's refusals comes before 16, for whichever reason.
     fn before_sixteen(&self, seed: u64, hits: &mut Hits) -> Result<u64, Box<Difference>> {
         let mut compared = 0;
-        for (to, refusal) in EDITIONS
+        for (to, refusal) in CONVERTED
             .iter()
             .flat_map(|to| card::REFUSALS.map(|refusal| (to, refusal)))
         {
@@ -257,7 +260,7 @@ impl Tables {
         hits: &mut Hits,
     ) -> Result<u64, Box<Difference>> {
         let mut compared = self.converted_limits(hits)? + self.before_sixteen(seed, hits)?;
-        for edition in &EDITIONS {
+        for edition in &CONVERTED {
             for card in generate::each_kind(edition) {
                 let length = card.encode().len();
                 compared += self.rooms(&card, 0..length + 20, hits)?;
@@ -266,12 +269,23 @@ impl Tables {
         for case in 0..count {
             let random = &mut Random::of_case(seed, case);
             let card = generate::card(random);
+            if card.edition > EDITION_2.number {
+                let to = random.pick(&CONVERTED);
+                let bytes = card.encode();
+                let number = self.conversion(&to, &bytes, bytes.len(), hits)?.0;
+                assert_eq!(number, 2, "an edition above 2");
+                hits.hit(format!(
+                    "to edition {}, of edition {}: 2",
+                    to.number, card.edition
+                ));
+                continue;
+            }
             if random.one_in(2) {
                 self.over_and_back(random, &card, hits)?;
             } else {
                 let bytes = generate::damaged_card(random);
                 let room = random.below(2 * bytes.len() + 20);
-                self.conversion(&random.pick(&EDITIONS), &bytes, room, hits)?;
+                self.conversion(&random.pick(&CONVERTED), &bytes, room, hits)?;
             }
             if fits(&card, &EDITION_1) {
                 let length = card.encode().len();

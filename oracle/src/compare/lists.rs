@@ -1,8 +1,9 @@
 //! Lists of calls on one state, which each side keeps to itself: the card, bytes that are refused, other cards.
 
+use super::breaking::broken;
 use super::tables::{answer, Answer, Call, Tables};
 use super::{number_bytes, Difference, Hits, Table};
-use crate::card::{self, Card, BODY_NUMBERS, EDITION_1};
+use crate::card::{self, Card, BODY_NUMBERS, BROKEN, EDITION_1, JOINT_NUMBERS};
 use crate::families::FAMILIES;
 use crate::generate::{self, Places, Random};
 use crate::table;
@@ -20,7 +21,7 @@ enum Step {
 enum Sort {
     /// As demand 3 speaks: each call brings the card or bytes that its checks refuse.
     Demand,
-    /// Other cards too, and NaNs that the host writes.
+    /// Other cards too, and NaNs and joints' marks that the host writes.
     Any,
 }
 
@@ -73,6 +74,11 @@ fn other(random: &mut Random, card: &Card) -> Vec<u8> {
 
 fn next(random: &mut Random, card: &Card, sort: Sort) -> Step {
     if sort == Sort::Any && random.one_in(20) {
+        if random.one_in(2) && !card.joints.is_empty() {
+            let joint = random.below(card.joints.len());
+            let place = BODY_NUMBERS * card.bodies.len() + JOINT_NUMBERS * joint + BROKEN;
+            return Step::Write(place, random.pick(&[1.0, 1.0, 0.0, -0.0, 2.0]));
+        }
         let place = random.below(card.state_length());
         return Step::Write(place, random.nan());
     }
@@ -162,14 +168,21 @@ impl Tables {
         };
         let length = 3 + random.below(18) as u64;
         for _ in 0..length {
+            let before = list.states[0].clone();
+            let mut started = false;
             match next(random, &card, sort) {
                 Step::Write(place, x) => list.states.iter_mut().for_each(|state| state[place] = x),
-                Step::Call(call, bytes) => self.called(call, &bytes, &mut list, hits)?,
+                Step::Call(call, bytes) => {
+                    started = matches!(call, Call::Start);
+                    self.called(call, &bytes, &mut list, hits)?;
+                }
             }
             if sort == Sort::Demand {
-                let now = anchored_bits(&card, &list.states[0]);
-                assert!(now == anchored, "anchored bodies never change");
+                let now = &list.states[0];
+                let kept = anchored_bits(&card, now) == anchored;
+                assert!(kept, "anchored bodies never change");
                 hits.look("list: an anchored body", !anchored.is_empty());
+                note_broken(&card, &before, now, started, hits);
             }
         }
         Ok(length)
@@ -187,8 +200,26 @@ impl Tables {
     }
 }
 
+/// In a list as demand 3 speaks of, joints stay broken but for a start.
+fn note_broken(card: &Card, before: &[f32], now: &[f32], started: bool, hits: &mut Hits) {
+    let whole = |state: &[f32], place: usize| state[place] == 0.0;
+    let first = BODY_NUMBERS * card.bodies.len() + BROKEN;
+    let healed = (first..now.len())
+        .step_by(JOINT_NUMBERS)
+        .any(|place| !whole(before, place) && whole(now, place));
+    assert!(started || !healed, "a broken joint stays broken");
+    let [before_count, count] = [before, now].map(|state| broken(card, state));
+    hits.look("list: a joint breaks", count > before_count);
+    hits.look("list: a start makes joints whole", healed);
+    let ticked = number_bytes(before) != number_bytes(now);
+    hits.look(
+        "list: a tick with a broken joint",
+        ticked && before_count > 0 && !started,
+    );
+}
+
 fn note_refusal(number: u32, state: &[f32], hits: &mut Hits) {
-    for refusal in card::REFUSALS.into_iter().chain(11..=13) {
+    for refusal in card::REFUSALS.into_iter().chain([11, 12, 21, 13]) {
         hits.look(format!("list: refused {refusal}"), refusal == number);
     }
     let nan = state.iter().any(|x| x.is_nan());
@@ -226,7 +257,7 @@ mod tests {
             ..ORACLE
         });
         let refused = |n: &u32| text.contains(&format!("oracle: {n}, rattle: {n}\n"));
-        assert!((1..=17).any(|n| refused(&n)), "{text}");
+        assert!((1..=21).any(|n| refused(&n)), "{text}");
         assert!(text.contains("(NaN)"), "{text}");
         // Remembers a refused card: no call by itself is wrong.
         let text = found(Table {

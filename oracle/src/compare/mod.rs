@@ -1,5 +1,6 @@
 //! The Rattle against the oracle: every number and refusal, bit for bit. Any NaN equals any NaN.
 
+pub mod breaking;
 pub mod cards;
 pub mod conversions;
 pub mod families;

@@ -1,6 +1,6 @@
 //! Smaller inputs that still differ.
 
-use crate::card::{self, Card, BODY_NUMBERS, JOINT_NUMBERS};
+use crate::card::{self, Card, BODY_NUMBERS, EDITION_3, JOINT_NUMBERS};
 
 /// How much there is to a number: zero and one are least.
 fn cost(x: f32) -> u32 {
@@ -64,6 +64,7 @@ pub(crate) fn floats(card: &mut Card) -> Vec<&mut f32> {
         floats.push(&mut body.inv_mass);
         floats.extend(&mut body.inv_inertia);
     }
+    let loads = card.edition == EDITION_3.number;
     for joint in &mut card.joints {
         floats.extend(&mut joint.anchor1);
         floats.extend(&mut joint.anchor2);
@@ -74,6 +75,9 @@ pub(crate) fn floats(card: &mut Card) -> Vec<&mut f32> {
         floats.extend(&mut joint.limit1_range);
         floats.extend(&mut joint.limit2_range);
         floats.extend(&mut joint.motor_numbers);
+        if loads {
+            floats.push(&mut joint.breaking_load);
+        }
     }
     floats
 }
@@ -214,7 +218,7 @@ pub fn card_and_state(
 pub fn bytes(mut input: Vec<u8>, differs: impl Fn(&[u8]) -> bool) -> Vec<u8> {
     loop {
         let mut changed = false;
-        for cut in [1024, 123, 94, 16, 4, 1] {
+        for cut in [1024, 127, 123, 94, 16, 4, 1] {
             while input.len() >= cut && differs(&input[..input.len() - cut]) {
                 input.truncate(input.len() - cut);
                 changed = true;

@@ -1,5 +1,6 @@
 //! Runs and states: both tables' sizes, start, tick and run on the same bytes and numbers.
 
+use super::breaking::{note_breaks, note_marks};
 use super::{in_hex, number_bytes, shrink, Difference, Hits, Table};
 use crate::above_one::{self, AboveOne};
 use crate::card::{
@@ -176,6 +177,7 @@ impl Tables {
             let tick = self.both(Call::Tick, &bytes, &state)?;
             number = tick.number;
             if number == 0 {
+                note_breaks(card, &state, &tick.state, hits);
                 state = tick.state;
                 done += 1;
                 note_state(card, &state, hits);
@@ -240,11 +242,16 @@ impl Tables {
                     ticks += u64::from(self.right_angle(random, hits)?);
                     continue;
                 }
+                5 => {
+                    ticks += u64::from(self.breaking(random, hits)?);
+                    continue;
+                }
                 0 => (generate::linkage(random), 300),
                 1 => (generate::coincident(random), 20),
                 2 | 3 => (generate::any_card(random), 5),
                 _ => (generate::pair(random), 20),
             };
+            let card = generate::with_loads(random, card);
             let done = self.run(&card, most, hits)?.done;
             let bodies = card.bodies.len();
             let closed = card.joints.len() >= bodies && bodies > 2;
@@ -253,14 +260,16 @@ impl Tables {
             hits.look("run of 300 ticks of 32 bodies", done >= 300 && bodies == 32);
             ticks += u64::from(done);
         }
-        Ok(ticks + self.held(hits)? + self.large(seed, hits)?)
+        Ok(ticks + self.held(hits)? + self.infinite_push(hits)? + self.large(seed, hits)?)
     }
 
     /// Linkages of up to 200 bodies and joints, at rates of up to 4,000.
     fn large(&self, seed: u64, hits: &mut Hits) -> Result<u64, Box<Difference>> {
         let mut ticks = 0;
         for case in 0..LARGE_RUNS {
-            let card = large::linkage(&mut Random::of_case(seed, case));
+            let random = &mut Random::of_case(seed, case);
+            let linkage = large::linkage(random);
+            let card = generate::with_loads(random, linkage);
             let done = self.run(&card, 100, hits)?.done;
             let counts = [card.bodies.len(), card.joints.len()];
             let fast = card.rate == EDITION_2.fastest;
@@ -288,9 +297,10 @@ impl Tables {
     ) -> Result<u32, Box<Difference>> {
         let tick = self.both(Call::Tick, bytes, state)?;
         let number = tick.number;
-        for refusal in [0, 11, 12, 13] {
+        for refusal in [0, 11, 12, 21, 13] {
             hits.look(format!("state: tick answers {refusal}"), refusal == number);
         }
+        note_marks(card, state, number, hits);
         hits.look(
             "state with subnormals is accepted",
             number == 0 && state.iter().any(|x| x.is_subnormal()),
@@ -329,7 +339,7 @@ impl Tables {
                 note_lengths(&card, &state, hits);
             }
             let none = self.both(Call::Run(0), &bytes, &state)?.number;
-            for refusal in [0, 12, 13] {
+            for refusal in [0, 12, 21, 13] {
                 let class = format!("state: run of none answers 0, a tick {refusal}");
                 hits.look(class, none == 0 && tick == refusal);
             }
@@ -340,7 +350,7 @@ impl Tables {
             );
             let ticks = 1 + random.below(4) as u32;
             let run = self.both(Call::Run(ticks), &bytes, &state)?;
-            for refusal in [0, 11, 12, 13] {
+            for refusal in [0, 11, 12, 21, 13] {
                 let class = format!("state: run answers {refusal}");
                 hits.look(class, refusal == run.number);
             }

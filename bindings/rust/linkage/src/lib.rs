@@ -67,13 +67,13 @@ impl<'a> Card<'a> {
         Ok(card)
     }
 
-    /// The card, of edition 2, as one of edition 1, written to the front of `out`. Refused by 2 where it is of edition 1, and by 16 where it is too large or
+    /// The card, of edition 2, as one of edition 1, written to the front of `out`. Refused by 2 where it is of another, and by 16 where it is too large or
     /// too fast for that or `out` is too short, and then nothing is written.
     pub fn to_edition_1<'b>(&self, out: &'b mut [u8]) -> Result<Card<'b>, Refusal> {
         self.converted(linkage_sys::linkage_to_edition_1, out)
     }
 
-    /// The card, of edition 1, as one of edition 2, written to the front of `out`. Refused by 2 where it is of edition 2, and by 16 where `out` is too
+    /// The card, of edition 1, as one of edition 2, written to the front of `out`. Refused by 2 where it is of another, and by 16 where `out` is too
     /// short, and then nothing is written.
     pub fn to_edition_2<'b>(&self, out: &'b mut [u8]) -> Result<Card<'b>, Refusal> {
         self.converted(linkage_sys::linkage_to_edition_2, out)
@@ -161,7 +161,7 @@ impl<'a> State<'a> {
         }
     }
 
-    /// One tick. Refused by 12 and 13, and then the state is as it was.
+    /// One tick. Refused by 12, 21 and 13, and then the state is as it was.
     pub fn tick(&mut self) -> Result<(), Refusal> {
         let _environment = Environment::enter();
         // SAFETY: as in `start`.
@@ -175,7 +175,7 @@ impl<'a> State<'a> {
         })
     }
 
-    /// Ticks in a row, all or none: where one is refused, by 12 or 13, the state is as it was.
+    /// Ticks in a row, all or none: where one is refused, by 12, 21 or 13, the state is as it was.
     pub fn run(&mut self, ticks: u32) -> Result<(), RunRefused> {
         let mut done = 0;
         let _environment = Environment::enter();
@@ -220,11 +220,20 @@ impl<'a> State<'a> {
         })
     }
 
+    /// Whether a joint is broken. None where the card has no such joint.
+    pub fn is_broken(&self, n: usize) -> Option<bool> {
+        if n >= self.card.joints() {
+            return None;
+        }
+        let at = BODY_NUMBERS * self.card.bodies() + JOINT_NUMBERS * n + BROKEN;
+        self.numbers.get(at).map(|number| *number == 1.0)
+    }
+
     pub fn numbers(&self) -> &[f32] {
         self.numbers
     }
 
-    /// For writing. The next tick refuses by 12 what it can't take.
+    /// For writing. The next tick refuses by 12 or 21 what it can't take.
     pub fn numbers_mut(&mut self) -> &mut [f32] {
         self.numbers
     }

@@ -23,6 +23,7 @@ pub enum Refusal {
     Conversion,
     Dominance,
     AngleLimit,
+    JointMark,
     /// One that this version does not know.
     Unknown(u32),
 }
@@ -48,6 +49,7 @@ impl Refusal {
             16 => Refusal::Conversion,
             17 => Refusal::Dominance,
             19 => Refusal::AngleLimit,
+            21 => Refusal::JointMark,
             _ => Refusal::Unknown(number),
         })
     }
@@ -70,6 +72,7 @@ impl Refusal {
             Refusal::Conversion => 16,
             Refusal::Dominance => 17,
             Refusal::AngleLimit => 19,
+            Refusal::JointMark => 21,
             Refusal::Unknown(number) => number,
         }
     }
@@ -92,6 +95,7 @@ impl Refusal {
             Refusal::Conversion => "the card is too large or too fast for the other edition, or the slice too short for its bytes",
             Refusal::Dominance => "a body of the card has a dominance, which is no longer known: an anchored body is to take its place",
             Refusal::AngleLimit => "an angle limit of a hinge or a ball is over 7 radians in size",
+            Refusal::JointMark => "a joint of the state is neither whole nor broken",
             Refusal::Unknown(_) => "an answer that this version does not know",
         }
     }

@@ -17,7 +17,7 @@ pub struct Edition {
 }
 
 /// The editions that the calls know.
-pub const EDITIONS: [Edition; 2] = [
+pub const EDITIONS: [Edition; 3] = [
     Edition {
         edition: 1,
         header_bytes: 12,
@@ -38,16 +38,29 @@ pub const EDITIONS: [Edition; 2] = [
         slowest: 16,
         fastest: 4000,
     },
+    Edition {
+        edition: 3,
+        header_bytes: 16,
+        body_bytes: 94,
+        joint_bytes: 127,
+        most_bodies: 200,
+        most_joints: 200,
+        slowest: 16,
+        fastest: 4000,
+    },
 ];
 
 /// The numbers of a body in the state.
 pub const BODY_NUMBERS: usize = 13;
 
 /// The numbers of a joint in the state, which follow those of all bodies.
-pub const JOINT_NUMBERS: usize = 12;
+pub const JOINT_NUMBERS: usize = 13;
+
+/// Where 0 for whole or 1 for broken stands among a joint's numbers.
+pub const BROKEN: usize = 12;
 
 /// The longest card of all editions.
-pub const MOST_CARD_BYTES: usize = 16 + 94 * 200 + 123 * 200;
+pub const MOST_CARD_BYTES: usize = 16 + 94 * 200 + 127 * 200;
 
 /// The longest state of all editions.
 pub const MOST_STATE_NUMBERS: usize = BODY_NUMBERS * 200 + JOINT_NUMBERS * 200;

@@ -1,7 +1,8 @@
 //! The package's own promises: no panic on wrong use, any number of threads, and the caller's floating-point environment kept.
 
 use linkage::{
-    Card, Refusal, RunRefused, State, BODY_NUMBERS, EDITIONS, MOST_CARD_BYTES, MOST_STATE_NUMBERS,
+    Card, Refusal, RunRefused, State, BODY_NUMBERS, BROKEN, EDITIONS, MOST_CARD_BYTES,
+    MOST_STATE_NUMBERS,
 };
 use std::arch::asm;
 use std::thread;
@@ -18,8 +19,13 @@ fn row(bodies: usize, velocity: f32) -> Vec<u8> {
 
 /// The same by edition 2, at any rate.
 fn row_2(bodies: usize, velocity: f32, rate: u16) -> Vec<u8> {
+    wide_row(2, bodies, velocity, rate)
+}
+
+/// By edition 2 or 3.
+fn wide_row(edition: u8, bodies: usize, velocity: f32, rate: u16) -> Vec<u8> {
     let [high, low] = rate.to_be_bytes();
-    let header = [&[2, bodies as u8, 0, high, low][..], &[0; 11]].concat();
+    let header = [&[edition, bodies as u8, 0, high, low][..], &[0; 11]].concat();
     row_of(&header, bodies, velocity)
 }
 
@@ -68,6 +74,24 @@ fn a_state_is_started_resumed_and_stopped() {
 }
 
 #[test]
+fn a_joint_breaks() {
+    // A tether between two bodies that are a metre apart, whose limits are 0 and which bears 1 N.
+    let mut bytes = wide_row(3, 2, 0.0, 16);
+    bytes[2] = 1;
+    bytes.extend([0x80, 0x00, 0x30]);
+    bytes.extend([0; 120]);
+    bytes.extend(1f32.to_be_bytes());
+    let card = Card::new(&bytes).unwrap();
+    let mut numbers = vec![0.0; card.state_numbers()];
+    let mut state = State::start(card, &mut numbers).unwrap();
+    assert_eq!([0, 1].map(|n| state.is_broken(n)), [Some(false), None]);
+    state.tick().unwrap();
+    assert_eq!(state.is_broken(0), Some(true));
+    state.numbers_mut()[2 * BODY_NUMBERS + BROKEN] = 2.0;
+    assert_eq!(state.tick(), Err(Refusal::JointMark));
+}
+
+#[test]
 fn wrong_lengths_are_refused() {
     let bytes = row(2, 1.0);
     for length in 0..bytes.len() {
@@ -93,7 +117,7 @@ fn the_largest_card_is_as_large_as_said() {
     for edition in EDITIONS {
         let row = |bodies: usize| match edition.edition {
             1 => row(bodies, 1.0),
-            _ => row_2(bodies, 1.0, 16),
+            wide => wide_row(wide, bodies, 1.0, 16),
         };
         let bytes = row(edition.most_bodies);
         let card = Card::new(&bytes).unwrap();
@@ -124,6 +148,10 @@ fn cards_are_converted_over_and_back() {
     assert_eq!(refused, Err(Refusal::Conversion));
     let refused = card.to_edition_1(&mut short).map(|_| ());
     assert_eq!(refused, Err(Refusal::WrongEdition));
+    let third = wide_row(3, 2, 64.0, 16);
+    let third = Card::new(&third).unwrap();
+    let refused = [third.to_edition_1(&mut back), third.to_edition_2(&mut over)].map(Result::err);
+    assert_eq!(refused, [Some(Refusal::WrongEdition); 2]);
     for large in [row_2(33, 1.0, 16), row_2(1, 1.0, 1001)] {
         let refused = Card::new(&large)
             .unwrap()

@@ -4,4 +4,4 @@ use Rattle.convert.proofs.Sizes.{size_small}
 use Rattle.host.proofs.linkage_to_edition_1.Goals as goal
 
 pub length_or_refusal-requires : goal.length_or_refusal-requires
-length_or_refusal-requires c = omega (arith, size_small Two One _ _ c.to_edition_1.ensures)
+length_or_refusal-requires c = omega (arith, size_small Two One (omega arith) (omega arith) _ _ c.to_edition_1.ensures)

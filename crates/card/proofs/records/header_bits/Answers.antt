@@ -1,3 +1,4 @@
+use Rattle.std.proofs.Common.{⊎_elim}
 use Rattle.card.proofs.Packed as packed
 use Rattle.card.specs.Format.{numbers_at}
 use Rattle.card.specs.Card.{edition_of}
@@ -18,4 +19,4 @@ returns-in-One c =
 
 pub returns-in-Two : goal.returns-in-Two
 unfolding header_bits numbers_at edition_of
-returns-in-Two c = rw c.in-Two.is cc
+returns-in-Two c = ⊎_elim (λ e. rw e cc) (λ e. rw e cc) c.in-Two.is

@@ -1,12 +1,11 @@
 -- What the two loops leave is the card's linkage (Loading.antt).
 use Prim.Native.Nat.{◌+◌, ◌*◌}
-use native.Mathlib.Omega.{arith}
 use mathlib.Core.Path.{◌≡◌}
 use mathlib.Core.List.{map}
 use Rattle.card.specs.Format.{records_at}
 use Rattle.card.specs.Card.{body}
 use Rattle.card.specs.Parts.{sizes_of}
-use Rattle.card.proofs.Editions.{cells, joint_width}
+use Rattle.card.proofs.Editions.{cells}
 use Rattle.loader.specs.Linkage.{body_of, joint_of}
 use Rattle.loader.proofs.Accepted.{fits, joint_fits}
 use Rattle.loader.proofs.Loading.{same_linkage, tied, all_in_reach}
@@ -25,8 +24,8 @@ pub load_joints-requires : goal.load_joints-requires
 load_joints-requires c =
     let a = c.args in
     let n = c.of-edition in (
-      rw c.sizes-first.ensures (omega (arith, fits a.card.bytes.now a.card.accepted n.result n.ensures a.h c.requires.0, c.requires.2)),
-      λ j r. rw (c.sizes-first.ensures, ← (joint_width n.result)) (joint_fits a.card.bytes.now a.card.accepted n.result n.ensures a.h c.requires.0 j (rw c.requires.2 at r)).0,
+      rw (c.sizes-first.ensures, c.requires.2) (fits a.card.bytes.now a.card.accepted n.result n.ensures a.h c.requires.0),
+      λ j r. rw c.sizes-first.ensures (joint_fits a.card.bytes.now a.card.accepted n.result n.ensures a.h c.requires.0 j (rw c.requires.2 at r)).0,
     )
 
 pub invariant_of-result : goal.invariant_of-result

@@ -1,9 +1,9 @@
 use native.Mathlib.Omega.{arith}
-use mathlib.Core.Path.{◌≡◌, ap, ◌∙◌}
+use mathlib.Core.Path.{◌≡◌, sym, ap, ◌∙◌}
 use lib.ListN.{length}
 use Rattle.numbers.proofs.Loops.{after_turn}
 use Rattle.loader.specs.Parts.{linkage_in}
-use Rattle.tick.specs.Tick.{solve_pass}
+use Rattle.tick.specs.Tick.{solve_next, solve_pass}
 use Rattle.tick.proofs.Lengths.{pre_solve_length}
 use Rattle.tick.proofs.Turns.{both_put}
 use Rattle.tick.proofs.Solving.{solve_more, solve_stop, solve_last}
@@ -32,7 +32,11 @@ returns-then-not-solved-clause-stopped c =
     let K = linkage_in c.args.self.now.linkage in
     let s = c.args.self.now.state.now in
     let e = c.solved-solved.ensures in
-    solve_last K s _ l.invariant (solve_stop K s l.j l.bodies l.new e c.if-not-solved.true) (omega arith)
+    solve_last K s _ l.invariant (solve_stop K s l.j l.bodies l.new (sym c.skipped.ensures ∙ c.if-skipped.false) e c.if-not-solved.true) (omega arith)
+
+pub loop-j-preserved-then-skipped : goal.loop-j-preserved-then-skipped
+unfolding solve_pass solve_next
+loop-j-preserved-then-skipped c = after_turn _ _ c.loop-j.invariant (rw (sym c.skipped.ensures ∙ c.if-skipped.true))
 
 pub loop-j-preserved : goal.loop-j-preserved
 unfolding solve_pass
@@ -43,4 +47,4 @@ loop-j-preserved c =
     let e = c.solved-solved.ensures in
     let put = both_put c.args.self.now l.j (c.first-first.ensures, c.second-second.ensures) c.solved-solved.result.bodies l.bodies c.put.ensures c.put-in-loop-j.ensures in
     after_turn _ _ l.invariant
-    (solve_more K s l.j l.bodies l.new e c.if-not-solved.false put (rw c.state_length-at.ensures at c.write.ensures) (omega arith) (omega (arith, c.requires.1, c.fill.auto, c.args.self.now.sized)))
+    (solve_more K s l.j l.bodies l.new (sym c.skipped.ensures ∙ c.if-skipped.false) e c.if-not-solved.false put (rw c.state_length-at.ensures at c.write.ensures) (omega arith) (omega (arith, c.requires.1, c.fill.auto, c.args.self.now.sized)))

@@ -21,15 +21,19 @@ invariant_of-joint-clause-whole c = omega (arith, many (goal.at.invariant_of-joi
 pub put-requires : goal.put-requires
 put-requires c = rw c.first-first.ensures.0 (omega (arith, many (goal.at.put-requires c).Start))
 
+pub loop-j-preserved-then-skipped : goal.loop-j-preserved-then-skipped
+loop-j-preserved-then-skipped c = after_turn _ _ c.loop-j.invariant (rw (sym c.skipped.ensures ∙ c.if-skipped.true))
+
 pub loop-j-preserved : goal.loop-j-preserved
 loop-j-preserved c =
     let t = c.args.self.now in
     let K = linkage_in t.linkage in
     let l = c.loop-j in
+    let whole = sym c.skipped.ensures ∙ c.if-skipped.false in
     after_turn _ _ l.invariant
     (elim c.if-driven.branch [
-      | then-driven w ↦ w.bodies-is ∙ both_put t l.j (w.first-first.ensures, w.second-second.ensures) _ _ w.put.ensures w.put-then-driven.ensures ∙ ap (λ p. put_pair K l.j p l.bodies) w.warmed-warmed.ensures
-      | else-driven w ↦ w.bodies-is ∙ warm_skip K t.state.now l.j (undriven t l.j (omega arith) _ c.driven.ensures w.if-driven.false) l.bodies
+      | then-driven w ↦ w.bodies-is ∙ rw whole (both_put t l.j (w.first-first.ensures, w.second-second.ensures) _ _ w.put.ensures w.put-then-driven.ensures ∙ ap (λ p. put_pair K l.j p l.bodies) w.warmed-warmed.ensures)
+      | else-driven w ↦ w.bodies-is ∙ warm_skip K t.state.now l.j whole (undriven t l.j (omega arith) _ c.driven.ensures w.if-driven.false) l.bodies
     ])
 
 pub returns : goal.returns
