@@ -339,11 +339,11 @@ fn check_records(card: &[u8], edition: Edition, bodies: usize, joints: usize) ->
     Ok(())
 }
 
-// The card, or the first of the refusals that applies to it.
+// The first of the refusals that applies to a card. Its answer is a register's, so that the compiler asks once where a caller's calls each check the same card.
 #[tactic(auto, using(crate::proofs::Editions::few, crate::proofs::Editions::refused_early, crate::proofs::Editions::by_records))]
-pub fn check(card: &[u8]) -> Result<Accepted<'_>, Refusal>
-    ensures number { number_of result ≡ check_of card.now }
-    ensures bytes { IfOk result (λ accepted. accepted.bytes.now ≡ card.now) }
+#[inline(never)]
+fn checked(card: &[u8]) -> Result<(), Refusal>
+    ensures { number_of result ≡ check_of card.now }
 {
     if card.len() < LEAST_BYTES {
         return Err(Refusal::ShortCard);
@@ -362,6 +362,15 @@ pub fn check(card: &[u8]) -> Result<Accepted<'_>, Refusal>
     if card.len() != sizes.header_bytes + BODY_BYTES * bodies + sizes.joint_bytes * joints {
         return Err(Refusal::WrongLength);
     }
-    check_records(card, edition, bodies, joints)?;
+    check_records(card, edition, bodies, joints)
+}
+
+// The card, or the first of the refusals that applies to it.
+#[inline(always)]
+pub fn check(card: &[u8]) -> Result<Accepted<'_>, Refusal>
+    ensures number { number_of result ≡ check_of card.now }
+    ensures bytes { IfOk result (λ accepted. accepted.bytes.now ≡ card.now) }
+{
+    checked(card)?;
     Ok(Accepted { bytes: card })
 }

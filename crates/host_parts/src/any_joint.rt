@@ -40,6 +40,7 @@ struct JointNumbers {
 }
 
 impl FromNumbers for JointNumbers {
+    #[inline(always)]
     fn read(from: &mut Iter<'_, f32>) -> JointNumbers {
         let ((anchor1, anchor2), (basis1, basis2), axis, compliances) = FromNumbers::read(from);
         let (limit1, limit2, motor) = FromNumbers::read(from);
@@ -122,7 +123,8 @@ impl JointNumbers {
         }
     }
 
-    // The card's kinds; any number above 4 is as 4.
+    // The card's kinds; any number above 4 is as 4. In line, so that no number is copied that its kind does not read.
+    #[inline(always)]
     fn joint(self, kind: u32, limits: u32, motor: u32) -> Joint
         ensures { EachAngleLimit InReach result }
     {
@@ -151,6 +153,7 @@ struct JointInput {
 }
 
 impl FromNumbers for JointInput {
+    #[inline(always)]
     fn read(from: &mut Iter<'_, f32>) -> JointInput {
         let (joint, poses, motor_total) = FromNumbers::read(from);
         let (bodies, inertias, warm_coefficient, dt) = FromNumbers::read(from);

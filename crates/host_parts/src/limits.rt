@@ -10,6 +10,7 @@ use std::slice::{Iter, IterMut};
 use vector::Vec3;
 
 impl FromNumbers for DistanceLimit {
+    #[inline(always)]
     fn read(from: &mut Iter<'_, f32>) -> DistanceLimit {
         let (min, max) = FromNumbers::read(from);
         DistanceLimit { min, max }
@@ -84,6 +85,7 @@ pub struct MotorNumbers {
 }
 
 impl FromNumbers for MotorNumbers {
+    #[inline(always)]
     fn read(from: &mut Iter<'_, f32>) -> MotorNumbers {
         let (target_velocity, target_position, cap, model) = FromNumbers::read(from);
         MotorNumbers {

@@ -3,7 +3,7 @@ use solver_body::{BodyPair, RigidBody, SolverBody, SolverBodyInertia};
 use std::slice::{Iter, IterMut};
 use vector::{Quat, SymmetricTensor, Vec3};
 
-// What is read past the end is zero.
+// What is read past the end is zero. Each `read` is in line, so that the compiler sees the length that `convert` has tested, and asks nowhere for the end.
 pub trait FromNumbers: Sized {
     fn read(from: &mut Iter<'_, f32>) -> Self;
 }
@@ -36,6 +36,7 @@ impl FromNumbers for () {
 }
 
 impl FromNumbers for f32 {
+    #[inline(always)]
     fn read(from: &mut Iter<'_, f32>) -> f32 {
         from.next().copied().unwrap_or(0.0)
     }
@@ -58,18 +59,21 @@ impl ToNumbers for bool {
 }
 
 impl<A: FromNumbers, B: FromNumbers> FromNumbers for (A, B) {
+    #[inline(always)]
     fn read(from: &mut Iter<'_, f32>) -> (A, B) {
         (A::read(from), B::read(from))
     }
 }
 
 impl<A: FromNumbers, B: FromNumbers, C: FromNumbers> FromNumbers for (A, B, C) {
+    #[inline(always)]
     fn read(from: &mut Iter<'_, f32>) -> (A, B, C) {
         (A::read(from), B::read(from), C::read(from))
     }
 }
 
 impl<A: FromNumbers, B: FromNumbers, C: FromNumbers, D: FromNumbers> FromNumbers for (A, B, C, D) {
+    #[inline(always)]
     fn read(from: &mut Iter<'_, f32>) -> (A, B, C, D) {
         (A::read(from), B::read(from), C::read(from), D::read(from))
     }
@@ -100,6 +104,7 @@ impl<A: ToNumbers, B: ToNumbers, C: ToNumbers, D: ToNumbers> ToNumbers for (A, B
 }
 
 impl FromNumbers for Vec3 {
+    #[inline(always)]
     fn read(from: &mut Iter<'_, f32>) -> Vec3 {
         let (x, y, z) = FromNumbers::read(from);
         Vec3 { x, y, z }
@@ -113,6 +118,7 @@ impl ToNumbers for Vec3 {
 }
 
 impl FromNumbers for Quat {
+    #[inline(always)]
     fn read(from: &mut Iter<'_, f32>) -> Quat {
         let (x, y, z, w) = FromNumbers::read(from);
         Quat { x, y, z, w }
@@ -126,6 +132,7 @@ impl ToNumbers for Quat {
 }
 
 impl FromNumbers for SymmetricTensor {
+    #[inline(always)]
     fn read(from: &mut Iter<'_, f32>) -> SymmetricTensor {
         let ((xx, xy, xz), (yy, yz, zz)) = FromNumbers::read(from);
         SymmetricTensor {
@@ -147,6 +154,7 @@ impl ToNumbers for SymmetricTensor {
 }
 
 impl FromNumbers for RigidBody {
+    #[inline(always)]
     fn read(from: &mut Iter<'_, f32>) -> RigidBody {
         let (position, rotation, center_of_mass) = FromNumbers::read(from);
         RigidBody {
@@ -158,6 +166,7 @@ impl FromNumbers for RigidBody {
 }
 
 impl FromNumbers for SolverBody {
+    #[inline(always)]
     fn read(from: &mut Iter<'_, f32>) -> SolverBody {
         let (linear_velocity, angular_velocity, delta_position, delta_rotation) = FromNumbers::read(
             from,
@@ -179,6 +188,7 @@ impl ToNumbers for SolverBody {
 }
 
 impl FromNumbers for BodyPair {
+    #[inline(always)]
     fn read(from: &mut Iter<'_, f32>) -> BodyPair {
         let (body1, body2) = FromNumbers::read(from);
         BodyPair { body1, body2 }
@@ -196,6 +206,7 @@ impl ToNumbers for BodyPair {
 pub struct Inertia(f32, SymmetricTensor);
 
 impl FromNumbers for Inertia {
+    #[inline(always)]
     fn read(from: &mut Iter<'_, f32>) -> Inertia {
         let (inv_mass, inv_angular_inertia) = FromNumbers::read(from);
         Inertia(inv_mass, inv_angular_inertia)

@@ -1,5 +1,5 @@
--- Document 01, 'Examples': the lines that the program writes, as bytes.
-use Rattle.std.specs.Prelude.{ℕ, zero, suc, ◌+◌, List, [], ◌++◌, map, codes, eqb, Float, if◌then◌else◌}
+-- Document 01, 'Examples': the tick count that the program reads, and the lines that it writes, as bytes.
+use Rattle.std.specs.Prelude.{ℕ, zero, suc, ◌+◌, ◌*◌, List, [], ◌++◌, map, codes, eqb, Float, if◌then◌else◌}
 use Rattle.std.specs.Fmt.{decimal}
 use Rattle.std.specs.Int.{to_be_bytes}
 use mir.Syntax.{w32}
@@ -11,6 +11,10 @@ use Rattle.numbers.specs.Numbers.{numbers3, numbers4}
 use Rattle.state.specs.State.{body_at}
 use Rattle.card.specs.Answer.{refused}
 use Rattle.tick.specs.Run.{tick_of}
+
+-- two bytes, high one first
+abbrev pub ticks_of : ℕ → ℕ → ℕ
+ticks_of high low = high * 256 + low
 
 -- eight digits; a NaN, of which no tick that is done leaves any, is the quiet one
 abbrev pub hex_of : Float → List ℕ

@@ -4,8 +4,9 @@
 mod fill;
 mod lines;
 
-ghost use Rattle.std.specs.Prelude.{◌*◌, ◌≤◌, IfOk};
+ghost use Rattle.std.specs.Prelude.{◌≡◌, ◌*◌, ◌≤◌, IfOk};
 ghost use Rattle.state.specs.State.{body_numbers};
+ghost use Rattle.linkage.specs.Lines.{ticks_of};
 
 use crate::fill::Table;
 use card::refusal::Refusal;
@@ -40,12 +41,18 @@ fn run_card(rt: &impl Print, card: &[u8], ticks: u16) -> io::Result<()> {
     }
 }
 
-// Two bytes for the count, the high one first, and the card.
+fn ticks_of(high: u8, low: u8) -> u16
+    ensures { result ≡ ticks_of high low }
+{
+    u16::from_be_bytes([high, low])
+}
+
+// Two bytes for the count, and the card.
 fn run_input(rt: &impl Print, input: &[u8]) -> io::Result<()> {
-    let Some((ticks, card)) = input.split_first_chunk() else {
+    let Some((count, card)) = input.split_first_chunk::<2>() else {
         return println!(rt; "{}", Refusal::ShortCard);
     };
-    run_card(rt, card, u16::from_be_bytes(*ticks))
+    run_card(rt, card, ticks_of(count[0], count[1]))
 }
 
 fn main(rt: HostRuntime) -> io::Result<()> {

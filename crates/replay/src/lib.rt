@@ -39,7 +39,8 @@ impl<A: Record + Drop, B: Record + Drop> Record for (A, B) {
     }
 }
 
-pub fn each_record<T: Record, F: Fn(T) -> io::Result<()>>(
+// Up to the input's end, or to a record behind which `replay` found it.
+pub fn each_record<T: Record, F: Fn(T) -> io::Result<bool>>(
     rt: &HostRuntime,
     replay: F,
 ) -> io::Result<()>
@@ -50,7 +51,9 @@ pub fn each_record<T: Record, F: Fn(T) -> io::Result<()>>(
         let Some(record) = T::read(&mut rt.stdin())? else {
             break;
         };
-        replay(record)?;
+        if !replay(record)? {
+            break;
+        }
     }
     Ok(())
 }

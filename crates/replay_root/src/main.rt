@@ -6,8 +6,9 @@ use root::sqrt;
 use scalar::to_bits;
 use std::io;
 
-fn replay(rt: &impl Print, x: f32) -> io::Result<()> {
-    println!(rt; "{:08x} {:08x}", to_bits(x), to_bits(sqrt(x)))
+fn replay(rt: &impl Print, x: f32) -> io::Result<bool> {
+    println!(rt; "{:08x} {:08x}", to_bits(x), to_bits(sqrt(x)))?;
+    Ok(true)
 }
 
 fn main(rt: HostRuntime) -> io::Result<()> {

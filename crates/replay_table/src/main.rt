@@ -2,6 +2,8 @@
 // state answers, the ticks that it did, and the sum of the state after it.
 #![tactic(auto)]
 
+ghost use Rattle.std.specs.Prelude.{◌≤◌};
+
 use card::refusal::number_of;
 use input::read_full;
 use replay::each_record;
@@ -29,22 +31,30 @@ fn replay_run(rt: &impl Print, card: &[u8], state: &mut [f32], ticks: u32) -> io
 
 // The state of a card that is refused has no number.
 #[tactic(auto, using(state::proofs::Few::few))]
-fn replay_card(rt: &impl Print, card: &[u8], ticks: u32) -> io::Result<()> {
-    let mut room = [0.0; LARGEST];
+fn state_numbers(card: &[u8]) -> usize
+    ensures { result ≤ 6630 }
+{
     match sizes(card) {
-        Ok(sizes) => replay_run(rt, card, &mut room[..sizes.state], ticks),
-        Err(_) => replay_run(rt, card, &mut room[..0], ticks),
+        Ok(sizes) => sizes.state,
+        Err(_) => 0,
     }
 }
 
-// With a card of so many bytes, where the input has them.
-fn replay(rt: &HostRuntime, ticks: u16, length: u16) -> io::Result<()> {
+fn replay_card(rt: &impl Print, card: &[u8], ticks: u32) -> io::Result<()> {
+    let mut room = [0.0; LARGEST];
+    let numbers = state_numbers(card);
+    replay_run(rt, card, &mut room[..numbers], ticks)
+}
+
+// With a card of so many bytes, where the input has them: it is not read again behind its end.
+fn replay(rt: &HostRuntime, ticks: u16, length: u16) -> io::Result<bool> {
     let mut room = [0; 65536];
     let card = &mut room[..length as usize];
     if read_full(&mut rt.stdin(), card)? < card.len() {
-        return Ok(());
+        return Ok(false);
     }
-    replay_card(rt, card, ticks as u32)
+    replay_card(rt, card, ticks as u32)?;
+    Ok(true)
 }
 
 fn main(rt: HostRuntime) -> io::Result<()> {

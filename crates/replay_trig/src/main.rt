@@ -7,11 +7,12 @@ use scalar::to_bits;
 use std::io;
 use trig::{asin, atan2, sin_cos};
 
-fn replay(rt: &impl Print, y: f32, x: f32) -> io::Result<()> {
+fn replay(rt: &impl Print, y: f32, x: f32) -> io::Result<bool> {
     let pair = sin_cos(y);
     print!(rt; "{:08x} {:08x} ", to_bits(y), to_bits(x))?;
     print!(rt; "{:08x} {:08x} ", to_bits(pair.sin), to_bits(pair.cos))?;
-    println!(rt; "{:08x} {:08x}", to_bits(atan2(y, x)), to_bits(asin(y)))
+    println!(rt; "{:08x} {:08x}", to_bits(atan2(y, x)), to_bits(asin(y)))?;
+    Ok(true)
 }
 
 fn main(rt: HostRuntime) -> io::Result<()> {
