@@ -339,7 +339,8 @@ fn check_records(card: &[u8], edition: Edition, bodies: usize, joints: usize) ->
     Ok(())
 }
 
-// The first of the refusals that applies to a card. Its answer is a register's, so that the compiler asks once where a caller's calls each check the same card.
+// The first of the refusals that applies to a card. Its answer is a register's, so that where a function's calls each check one card, and write nothing between that might be the
+// card's, the compiler can ask once.
 #[tactic(auto, using(crate::proofs::Editions::few, crate::proofs::Editions::refused_early, crate::proofs::Editions::by_records))]
 #[inline(never)]
 fn checked(card: &[u8]) -> Result<(), Refusal>

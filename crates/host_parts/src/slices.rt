@@ -3,7 +3,7 @@ use solver_body::{BodyPair, RigidBody, SolverBody, SolverBodyInertia};
 use std::slice::{Iter, IterMut};
 use vector::{Quat, SymmetricTensor, Vec3};
 
-// What is read past the end is zero. Each `read` is in line, so that the compiler sees the length that `convert` has tested, and asks nowhere for the end.
+// What is read past the end is zero. Each `read` that reads is in line, so that the compiler sees the length that `convert` has tested, and asks nowhere for the end.
 pub trait FromNumbers: Sized {
     fn read(from: &mut Iter<'_, f32>) -> Self;
 }

@@ -39,7 +39,7 @@ impl<A: Record + Drop, B: Record + Drop> Record for (A, B) {
     }
 }
 
-// Up to the input's end, or to a record behind which `replay` found it.
+// Up to the input's end, or until `replay` answers that it has met the end itself: false.
 pub fn each_record<T: Record, F: Fn(T) -> io::Result<bool>>(
     rt: &HostRuntime,
     replay: F,
